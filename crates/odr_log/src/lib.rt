@@ -1,0 +1,5 @@
+//! The log of a recorded run: each thread's branch outcomes and jump targets, the guest calls in the order
+//! of all threads, and the end. Who won a data race is not kept.
+#![tactic(auto)]
+
+pub mod log;
