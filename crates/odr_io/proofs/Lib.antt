@@ -1,0 +1,2 @@
+pub mod HeldIn
+pub mod Pieces
