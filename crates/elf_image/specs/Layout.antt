@@ -1,5 +1,5 @@
 -- What contracts see of an image: its regions, where no two share an address, and its entry.
-use Rattle.std.specs.Prelude.{◌≡◌, ℕ, ◌+◌, ◌-◌, ◌*◌, ◌%◌, ◌^◌, Bool, true, false, ◌&&◌, List, [], ◌∷◌, length, nat_eq, nat_le, nat_lt, slice_index, Option, Some, None, option_map, if◌then◌else◌}
+use Rattle.std.specs.Prelude.{◌≡◌, ℕ, ◌+◌, ◌-◌, ◌*◌, ◌%◌, ◌^◌, ◌<◌, ◌≤◌, Bool, false, ◌&&◌, List, [], ◌∷◌, length, nat_eq, nat_le, nat_lt, slice_index, sum_by, All, AllPairs, IsTrue, IsSome, Option, Some, None, option_map, if◌then◌else◌}
 use Rattle.elf_image.specs.declared.region.Region.{Region}
 use Rattle.elf_image.specs.declared.region.Perm.{Perm}
 
@@ -42,3 +42,23 @@ little_endian None b c d = None
 -- the instruction word at an address: a multiple of four whose four bytes may be fetched
 abbrev pub fetch_of : Layout → ℕ → Option ℕ
 fetch_of image pc = if nat_eq (pc % 4) 0 then little_endian (code_of image pc) (code_of image (pc + 1)) (code_of image (pc + 2)) (code_of image (pc + 3)) else None
+
+-- a region of bytes that isn't empty, stands below the stacks, and is never both written and executed
+pub record IsPlaced (region : Region) : Type 0 where
+  pub some : 0 < length region.bytes
+  pub fits : All (λ byte. byte < 2 ^ 8) region.bytes
+  pub below : region.start + length region.bytes ≤ 0x70000000
+  pub fixed_code : (region.perm.w && region.perm.x) ≡ false
+
+-- no address is in both regions
+abbrev pub AreApart : Region → Region → Type 0
+AreApart a b = (address : ℕ) → IsTrue (covers a address) → IsTrue (covers b address) → ⊥
+
+-- what every image keeps
+pub record IsSound (image : Layout) : Type 0 where
+  pub some : 0 < length image.regions
+  pub few : length image.regions ≤ 16
+  pub placed : All IsPlaced image.regions
+  pub apart : AllPairs AreApart image.regions
+  pub small : sum_by (λ region. length region.bytes) image.regions ≤ 1048576
+  pub entry : IsSome (fetch_of image image.entry)

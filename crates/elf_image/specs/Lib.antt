@@ -1,2 +1,10 @@
+pub mod Checks
+pub mod Fault
+pub mod Fields
+pub mod ImageLaws
+pub mod Laws
 pub mod Layout
 pub mod Memory
+pub mod Plain
+pub mod Segments
+pub mod Table

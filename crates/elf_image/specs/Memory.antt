@@ -1,15 +1,10 @@
 -- The memory of a guest: the image's regions and eight stacks in the beginning, and after a list of writes the
 -- newest write to each byte. This is the sequentially consistent memory: one order of all writes.
-use Rattle.std.specs.Prelude.{◌≡◌, ℕ, zero, suc, ◌+◌, ◌-◌, ◌*◌, ◌/◌, ◌%◌, ◌^◌, Bool, true, false, ◌&&◌, List, [], ◌∷◌, length, nat_eq, nat_le, nat_lt, slice_index, Option, Some, None, option_map, is_some, if◌then◌else◌}
+use Rattle.std.specs.Prelude.{◌≡◌, ℕ, zero, suc, ◌+◌, ◌-◌, ◌*◌, ◌/◌, ◌%◌, ◌^◌, Bool, true, false, ◌&&◌, List, [], ◌∷◌, nat_eq, nat_le, nat_lt, slice_index, Option, Some, None, option_map, if◌then◌else◌}
 use Rattle.elf_image.specs.declared.region.Region.{Region}
 use Rattle.elf_image.specs.declared.write.Write.{Write}
+pub use Rattle.elf_image.specs.declared.cell.Cell.{Cell}
 use Rattle.elf_image.specs.Layout.{Layout, region_at}
-
--- a byte of memory with its rights
-pub record Cell : Type 0 where
-  pub byte : ℕ
-  pub readable : Bool
-  pub writable : Bool
 
 -- a memory: at each address a byte with its rights, or none
 abbrev pub Cells : Type 0
