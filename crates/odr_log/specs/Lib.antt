@@ -1,1 +1,4 @@
 pub mod Grammar
+pub mod Tape
+pub mod Same
+pub mod SameLaws

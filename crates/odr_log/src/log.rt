@@ -67,7 +67,7 @@ pub enum Call {
 }
 
 /// A call with its thread and the number of instructions that the thread retired before it.
-#[derive(Debug, Drop, PartialEq)]
+#[derive(Debug, Drop)]
 pub struct CallRec {
     pub tid: u8,
     pub at: u32,
