@@ -2,3 +2,4 @@ pub mod Grammar
 pub mod Tape
 pub mod Same
 pub mod SameLaws
+pub mod Reading

@@ -3,4 +3,6 @@
 #![tactic(auto)]
 
 pub mod log;
+mod reading;
 mod same;
+mod stop;
