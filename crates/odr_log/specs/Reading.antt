@@ -25,6 +25,13 @@ abbrev pub ◌>>=◌ : {A B : Type 0} → Result A ℕ → (A → Result B ℕ) 
 abbrev pub mapped : {A B : Type 0} → (A → B) → Result (A × List ℕ) ℕ → Result (B × List ℕ) ℕ
 mapped make read = read >>= λ x. Ok (make x.0, x.1)
 
+-- one value and then another
+abbrev pub pair_at : {A B : Type 0} → (List ℕ → Result (A × List ℕ) ℕ) → (List ℕ → Result (B × List ℕ) ℕ) → List ℕ → Result ((A × B) × List ℕ) ℕ
+pair_at first_at second_at bytes = do
+  first ← first_at bytes
+  second ← second_at first.1
+  Ok ((first.0, second.0), second.1)
+
 -- What a function returned, seen by view, is what reading gives, unless memory ran out.
 abbrev pub Stops : {Y : Type 0} → Stop → Result Y ℕ → Type 0
 Stops stop.Memory read = Unit {0}
@@ -83,36 +90,32 @@ thread_at bytes = do
 
 -- a number and a flag
 unfoldable pub flagged_at : List ℕ → Result ((ℕ × Bool) × List ℕ) ℕ
-flagged_at bytes = do
-  number ← number_at w32 bytes
-  flag ← flag_at number.1
-  Ok ((number.0, flag.0), flag.1)
+flagged_at = pair_at (number_at w32) flag_at
 
--- an entry, and a child that is none where it is 255
-unfoldable pub spawn_at : List ℕ → Result (Call × List ℕ) ℕ
-spawn_at bytes = do
-  entry ← number_at w32 bytes
-  child ← byte_at 0 255 entry.1
-  Ok (call.Spawn entry.0 (if child.0 == 255 then None else Some child.0), child.1)
+-- a child, which is none where it is 255
+unfoldable pub child_at : List ℕ → Result (Option ℕ × List ℕ) ℕ
+child_at bytes = mapped (λ b. if b == 255 then None else Some b) (byte_at 0 255 bytes)
 
-unfoldable pub read_at : List ℕ → Result (Call × List ℕ) ℕ
-read_at bytes = do
-  want ← number_at w32 bytes
-  text ← text_at want.1
-  Ok (call.Read want.0 text.0, text.1)
+-- an entry and a child
+unfoldable pub spawned_at : List ℕ → Result ((ℕ × Option ℕ) × List ℕ) ℕ
+spawned_at = pair_at (number_at w32) child_at
+
+-- how many bytes were wanted, and those that came
+unfoldable pub wanted_at : List ℕ → Result ((ℕ × List ℕ) × List ℕ) ℕ
+wanted_at = pair_at (number_at w32) text_at
 
 -- the fields of a call of this kind
 unfoldable pub fields_at : ℕ → List ℕ → Result (Call × List ℕ) ℕ
 fields_at kind bytes =
     if kind == 0x01 then mapped call.Exit (number_at w32 bytes) else
     if kind == 0x02 then Ok (call.EndThread, bytes) else
-    if kind == 0x03 then spawn_at bytes else
+    if kind == 0x03 then mapped (λ f. call.Spawn f.0 f.1) (spawned_at bytes) else
     if kind == 0x04 then mapped (λ f. call.Join f.0 f.1) (flagged_at bytes) else
     if kind == 0x05 then mapped (λ f. call.Lock f.0 f.1) (flagged_at bytes) else
     if kind == 0x06 then mapped (λ f. call.Unlock f.0 f.1) (flagged_at bytes) else
     if kind == 0x07 then mapped (λ f. call.TryLock f.0 f.1) (flagged_at bytes) else
     if kind == 0x08 then mapped call.Write (text_at bytes) else
-    if kind == 0x09 then read_at bytes else
+    if kind == 0x09 then mapped (λ f. call.Read f.0 f.1) (wanted_at bytes) else
     if kind == 0x0a then Ok (call.SelfId, bytes) else
     if kind == 0x0b then Ok (call.Yield, bytes) else
     if kind == 0x0c then Ok (call.WriteBad, bytes) else

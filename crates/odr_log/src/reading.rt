@@ -2,7 +2,7 @@
 
 ghost use Rattle.std.specs.Prelude.{◌≡◌, ◌<◌, [], ◌∷◌, ◌++◌, length, codes};
 ghost use Rattle.std.specs.Int.{w16, w32};
-ghost use Rattle.odr_log.specs.Reading.{Gives, byte_at, number_at, bytes_at, text_at, flag_at, list_at, item_at, thread_at, spawn_at, read_at, flagged_at, fields_at, record_at, cause_of, exited_at, faulted_at, end_at, mark_at, body_at, log_at, whole_at};
+ghost use Rattle.odr_log.specs.Reading.{Gives, byte_at, number_at, bytes_at, text_at, flag_at, list_at, item_at, thread_at, child_at, spawned_at, wanted_at, flagged_at, fields_at, record_at, cause_of, exited_at, faulted_at, end_at, mark_at, body_at, log_at, whole_at};
 
 use crate::log::{Call, CallRec, Cause, End, Log, PathItem, ThreadLog};
 use crate::stop::Stop;
@@ -75,23 +75,36 @@ fn item_of(bytes: &[u8]) -> Result<(PathItem, &[u8]), Stop>
     Ok((PathItem::Branch(kind == 1), rest))
 }
 
-#[tactic(auto, unfolding(crate::specs::Reading::spawn_at))]
-fn spawn_of(bytes: &[u8]) -> Result<(Call, &[u8]), Stop>
-    ensures { Gives (λ x. (x.0, x.1.now)) result (spawn_at bytes.now) }
+/// A child, which is none where it is 255.
+#[tactic(auto, unfolding(crate::specs::Reading::child_at))]
+fn child_of(bytes: &[u8]) -> Result<(Option<u8>, &[u8]), Stop>
+    ensures { Gives (λ x. (x.0, x.1.now)) result (child_at bytes.now) }
 {
-    let (entry, rest) = u32_of(bytes)?;
-    let (child, rest) = byte_of(rest, 0, u8::MAX)?;
-    let child = if child == u8::MAX { None } else { Some(child) };
-    Ok((Call::Spawn { entry, child }, rest))
+    let (child, rest) = byte_of(bytes, 0, u8::MAX)?;
+    if child == u8::MAX {
+        return Ok((None, rest));
+    }
+    Ok((Some(child), rest))
 }
 
-#[tactic(auto, unfolding(crate::specs::Reading::read_at))]
-fn read_of(alloc: Global, bytes: &[u8]) -> Result<(Call, &[u8]), Stop>
-    ensures { Gives (λ x. (x.0, x.1.now)) result (read_at bytes.now) }
+/// An entry and a child.
+#[tactic(auto, unfolding(crate::specs::Reading::spawned_at))]
+fn spawned_of(bytes: &[u8]) -> Result<((u32, Option<u8>), &[u8]), Stop>
+    ensures { Gives (λ x. (x.0, x.1.now)) result (spawned_at bytes.now) }
+{
+    let (entry, rest) = u32_of(bytes)?;
+    let (child, rest) = child_of(rest)?;
+    Ok(((entry, child), rest))
+}
+
+/// How many bytes were wanted, and those that came.
+#[tactic(auto, unfolding(crate::specs::Reading::wanted_at))]
+fn wanted_of(alloc: Global, bytes: &[u8]) -> Result<((u32, Bytes), &[u8]), Stop>
+    ensures { Gives (λ x. (x.0, x.1.now)) result (wanted_at bytes.now) }
 {
     let (want, rest) = u32_of(bytes)?;
-    let (bytes, rest) = text_of(alloc, rest)?;
-    Ok((Call::Read { want, bytes }, rest))
+    let (text, rest) = text_of(alloc, rest)?;
+    Ok(((want, text), rest))
 }
 
 /// A number and a flag.
@@ -115,7 +128,10 @@ fn fields_of(alloc: Global, kind: u8, bytes: &[u8]) -> Result<(Call, &[u8]), Sto
             Ok((Call::Exit { code }, rest))
         }
         2 => Ok((Call::EndThread, bytes)),
-        3 => spawn_of(bytes),
+        3 => {
+            let ((entry, child), rest) = spawned_of(bytes)?;
+            Ok((Call::Spawn { entry, child }, rest))
+        }
         4 => {
             let ((target, ok), rest) = flagged_of(bytes)?;
             Ok((Call::Join { target, ok }, rest))
@@ -136,7 +152,10 @@ fn fields_of(alloc: Global, kind: u8, bytes: &[u8]) -> Result<(Call, &[u8]), Sto
             let (bytes, rest) = text_of(alloc, bytes)?;
             Ok((Call::Write { bytes }, rest))
         }
-        9 => read_of(alloc, bytes),
+        9 => {
+            let ((want, bytes), rest) = wanted_of(alloc, bytes)?;
+            Ok((Call::Read { want, bytes }, rest))
+        }
         10 => Ok((Call::SelfId, bytes)),
         11 => Ok((Call::Yield, bytes)),
         12 => Ok((Call::WriteBad, bytes)),
