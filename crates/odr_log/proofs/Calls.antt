@@ -1,5 +1,5 @@
 -- The readers of calls belong to their spelling.
-use Rattle.std.proofs.Common.{◌≡◌, ℕ, zero, suc, ◌+◌, ◌^◌, ◌<◌, ◌≤◌, Bool, true, false, List, [], ◌∷◌, ◌++◌, length, Option, Some, None, Result, Ok, Err, refl, sym, ap, subst, ◌∙◌, arith, inl, inr}
+use Rattle.std.proofs.Common.{◌≡◌, ℕ, zero, suc, ◌+◌, ◌-◌, ◌^◌, ◌<◌, ◌≤◌, Bool, true, false, List, [], ◌∷◌, ◌++◌, length, Option, Some, None, Result, Ok, Err, refl, sym, ap, subst, ◌∙◌, arith, inl, inr}
 use Rattle.std.specs.Prelude.{◌==◌, if◌then◌else◌, IfSome}
 use Rattle.std.specs.Int.{w16, w32, to_le_bytes}
 use Rattle.std.proofs.lemmas.Bool.{eqb-true, eqb-false, ne_eqb}
@@ -184,3 +184,100 @@ fields-reader = each_kind (λ kind. IsReader (IsOfKind kind) fields_of (fields_a
     (bare-reader 0x0c call.WriteBad tt refl refl only_write_bad)
     (bare-reader 0x0d call.ReadBad tt refl refl only_read_bad)
     (word-by 0x0e call.Unknown (λ n lt. ((lt, refl), refl)) unknown_made)
+
+-- ---- records
+
+some_call : (kind : ℕ) → IsBetween 0x01 0x0e kind → (c : Call) × IsCall c × (kind_of c ≡ kind)
+some_call = each_kind (λ kind. (c : Call) × IsCall c × (kind_of c ≡ kind))
+    (call.Exit 0, omega arith, refl)
+    (call.EndThread, tt, refl)
+    (call.Spawn 0 None, (omega arith, tt), refl)
+    (call.Join 0 false, omega arith, refl)
+    (call.Lock 0 false, omega arith, refl)
+    (call.Unlock 0 false, omega arith, refl)
+    (call.TryLock 0 false, omega arith, refl)
+    (call.Write [], (omega arith, All-nil (λ b. b < 256)), refl)
+    (call.Read 0 [], (omega arith, (omega arith, All-nil (λ b. b < 256))), refl)
+    (call.SelfId, tt, refl)
+    (call.Yield, tt, refl)
+    (call.WriteBad, tt, refl)
+    (call.ReadBad, tt, refl)
+    (call.Unknown 0, omega arith, refl)
+
+kind-known : (c : Call) → IsBetween 0x01 0x0e (kind_of c)
+kind-known (call.Exit code) = (omega arith, omega arith)
+kind-known call.EndThread = (omega arith, omega arith)
+kind-known (call.Spawn entry child) = (omega arith, omega arith)
+kind-known (call.Join target ok) = (omega arith, omega arith)
+kind-known (call.Lock mutex ok) = (omega arith, omega arith)
+kind-known (call.Unlock mutex ok) = (omega arith, omega arith)
+kind-known (call.TryLock mutex got) = (omega arith, omega arith)
+kind-known (call.Write bytes) = (omega arith, omega arith)
+kind-known (call.Read want bytes) = (omega arith, omega arith)
+kind-known call.SelfId = (omega arith, omega arith)
+kind-known call.Yield = (omega arith, omega arith)
+kind-known call.WriteBad = (omega arith, omega arith)
+kind-known call.ReadBad = (omega arith, omega arith)
+kind-known (call.Unknown number) = (omega arith, omega arith)
+
+-- a record without its thread, without its step, without its kind
+abbrev behind_tid : CallRec → List ℕ
+behind_tid z = little_bytes 4 z.at ++ kind_of z.call ∷ fields_of z.call
+
+abbrev behind_at : CallRec → List ℕ
+behind_at z = kind_of z.call ∷ fields_of z.call
+
+abbrev behind_kind : CallRec → List ℕ
+behind_kind z = fields_of z.call
+
+abbrev call_with : ℕ → ℕ → ℕ → List ℕ → Result (CallRec × List ℕ) ℕ
+call_with tid at kind bytes = fields_at kind bytes >>= λ made. Ok (record { tid = tid; at = at; call = made.0 }, made.1)
+
+abbrev kind_with : ℕ → ℕ → List ℕ → Result (CallRec × List ℕ) ℕ
+kind_with tid at bytes = byte_at 0x01 0x0e bytes >>= λ kind. call_with tid at kind.0 kind.1
+
+abbrev at_with : ℕ → List ℕ → Result (CallRec × List ℕ) ℕ
+at_with tid bytes = number_at w32 bytes >>= λ at. kind_with tid at.0 at.1
+
+call-reader : (threads tid at kind : ℕ) → tid < threads → at < 2 ^ 32 → IsBetween 0x01 0x0e kind
+    → IsReader (λ z. ((IsRecord threads z × (z.tid ≡ tid)) × (z.at ≡ at)) × (kind_of z.call ≡ kind)) behind_kind (call_with tid at kind)
+call-reader threads tid at kind tid_fits at_fits kind_fits =
+    made-reader (IsOfKind kind) fields_of (fields_at kind) (λ z. ((IsRecord threads z × (z.tid ≡ tid)) × (z.at ≡ at)) × (kind_of z.call ≡ kind)) behind_kind
+        (λ c. record { tid = tid; at = at; call = c }) (fields-reader kind kind_fits)
+        (record {
+          some = λ c g. ((((record { tid = tid_fits; at = at_fits; call = g.0 }, refl), refl), g.1), refl);
+          made = λ z g. (z.call, (g.0.0.0.call, g.1), λ i. record { tid = g.0.0.1 i; at = g.0.1 i; call = z.call });
+        })
+
+kind-reader : (threads tid at : ℕ) → tid < threads → at < 2 ^ 32 → IsReader (λ z. (IsRecord threads z × (z.tid ≡ tid)) × (z.at ≡ at)) behind_at (kind_with tid at)
+kind-reader threads tid at tid_fits at_fits =
+    then-reader (IsBetween 0x01 0x0e) one_byte (byte_at 0x01 0x0e) (λ z. (IsRecord threads z × (z.tid ≡ tid)) × (z.at ≡ at)) behind_at (λ z. kind_of z.call) behind_kind (call_with tid at)
+        (byte-reader 0x01 0x0e (omega arith)) (λ kind kind_fits. call-reader threads tid at kind tid_fits at_fits kind_fits)
+        (record {
+          fits = λ z g. kind-known z.call;
+          text = λ z g. refl;
+          some = λ kind kind_fits.
+              let c = some_call kind kind_fits in
+              (record { tid = tid; at = at; call = c.0 }, ((record { tid = tid_fits; at = at_fits; call = c.1 }, refl), refl), c.2);
+        })
+
+at-reader : (threads tid : ℕ) → tid < threads → IsReader (λ z. IsRecord threads z × (z.tid ≡ tid)) behind_tid (at_with tid)
+at-reader threads tid tid_fits =
+    then-reader (λ n. n < 2 ^ 32) (to_le_bytes w32) (number_at w32) (λ z. IsRecord threads z × (z.tid ≡ tid)) behind_tid (λ z. z.at) behind_at (kind_with tid)
+        word-reader (λ at at_fits. kind-reader threads tid at tid_fits at_fits)
+        (record {
+          fits = λ z g. g.0.at;
+          text = λ z g. refl;
+          some = λ at at_fits. (record { tid = tid; at = at; call = call.EndThread }, (record { tid = tid_fits; at = at_fits; call = tt }, refl), refl);
+        })
+
+pub record-reader : (threads : ℕ) → 0 < threads → IsReader (IsRecord threads) record_bytes (record_at threads)
+unfolding record_at
+record-reader threads some =
+    then-reader (IsBetween 0 (threads - 1)) one_byte (byte_at 0 (threads - 1)) (IsRecord threads) record_bytes (λ z. z.tid) behind_tid at_with
+        (byte-reader 0 (threads - 1) (omega arith)) (λ tid fits. at-reader threads tid (omega arith))
+        (record {
+          fits = λ z g. let tid_fits = g.tid in (omega arith, omega arith);
+          text = λ z g. refl;
+          some = λ tid fits. (record { tid = tid; at = 0; call = call.EndThread }, record { tid = omega arith; at = omega arith; call = tt }, refl);
+        })

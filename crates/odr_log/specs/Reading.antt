@@ -143,22 +143,29 @@ cause_of code =
     if code == 6 then cause.AmoFault else
     cause.Breakpoint
 
-unfoldable pub exited_at : ℕ → List ℕ → Result (End × List ℕ) ℕ
-exited_at threads bytes = do
-  tid ← byte_at 0 (threads - 1) bytes
-  code ← number_at w32 tid.1
-  Ok (end.Exited tid.0 code.0, code.1)
+unfoldable pub cause_at : List ℕ → Result (Cause × List ℕ) ℕ
+cause_at bytes = mapped cause_of (byte_at 1 7 bytes)
 
-unfoldable pub faulted_at : ℕ → List ℕ → Result (End × List ℕ) ℕ
-faulted_at threads bytes = do
-  tid ← byte_at 0 (threads - 1) bytes
-  code ← byte_at 1 7 tid.1
-  Ok (end.Faulted tid.0 (cause_of code.0), code.1)
+-- a thread of so many, and its exit code
+unfoldable pub exited_at : ℕ → List ℕ → Result ((ℕ × ℕ) × List ℕ) ℕ
+exited_at threads = pair_at (byte_at 0 (threads - 1)) (number_at w32)
+
+-- a thread of so many, and why it faulted
+unfoldable pub faulted_at : ℕ → List ℕ → Result ((ℕ × Cause) × List ℕ) ℕ
+faulted_at threads = pair_at (byte_at 0 (threads - 1)) cause_at
+
+-- the fields of an end of this kind
+unfoldable pub end_fields_at : ℕ → ℕ → List ℕ → Result (End × List ℕ) ℕ
+end_fields_at threads kind bytes =
+    if kind == 0 then Ok (end.Cut, bytes) else
+    if kind == 1 then mapped (λ x. end.Exited x.0 x.1) (exited_at threads bytes) else
+    if kind == 2 then mapped (λ x. end.Faulted x.0 x.1) (faulted_at threads bytes) else
+    Ok (end.AllDone, bytes)
 
 unfoldable pub end_at : ℕ → List ℕ → Result (End × List ℕ) ℕ
 end_at threads bytes = do
   kind ← byte_at 0 3 bytes
-  if kind.0 == 0 then Ok (end.Cut, kind.1) else if kind.0 == 1 then exited_at threads kind.1 else if kind.0 == 2 then faulted_at threads kind.1 else Ok (end.AllDone, kind.1)
+  end_fields_at threads kind.0 kind.1
 
 -- ---- the log
 

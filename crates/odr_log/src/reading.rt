@@ -2,7 +2,7 @@
 
 ghost use Rattle.std.specs.Prelude.{◌≡◌, ◌<◌, [], ◌∷◌, ◌++◌, length, codes};
 ghost use Rattle.std.specs.Int.{w16, w32};
-ghost use Rattle.odr_log.specs.Reading.{Gives, byte_at, number_at, bytes_at, text_at, flag_at, list_at, item_at, thread_at, child_at, spawned_at, wanted_at, flagged_at, fields_at, record_at, cause_of, exited_at, faulted_at, end_at, mark_at, body_at, log_at, whole_at};
+ghost use Rattle.odr_log.specs.Reading.{Gives, byte_at, number_at, bytes_at, text_at, flag_at, list_at, item_at, thread_at, child_at, spawned_at, wanted_at, flagged_at, fields_at, record_at, cause_of as code_cause, cause_at, exited_at, faulted_at, end_at, mark_at, body_at, log_at, whole_at};
 
 use crate::log::{Call, CallRec, Cause, End, Log, PathItem, ThreadLog};
 use crate::stop::Stop;
@@ -181,7 +181,7 @@ fn record_of(alloc: Global, threads: u8, bytes: &[u8]) -> Result<(CallRec, &[u8]
 }
 
 fn cause_of_code(code: u8) -> Cause
-    ensures { result ≡ cause_of code }
+    ensures { result ≡ code_cause code }
 {
     match code {
         1 => Cause::FetchFault,
@@ -194,28 +194,37 @@ fn cause_of_code(code: u8) -> Cause
     }
 }
 
+#[tactic(auto, unfolding(crate::specs::Reading::cause_at))]
+fn cause_of(bytes: &[u8]) -> Result<(Cause, &[u8]), Stop>
+    ensures { Gives (λ x. (x.0, x.1.now)) result (cause_at bytes.now) }
+{
+    let (code, rest) = byte_of(bytes, 1, 7)?;
+    Ok((cause_of_code(code), rest))
+}
+
+/// A thread of so many, and its exit code.
 #[tactic(auto, unfolding(crate::specs::Reading::exited_at))]
-fn exited_of(threads: u8, bytes: &[u8]) -> Result<(End, &[u8]), Stop>
+fn exited_of(threads: u8, bytes: &[u8]) -> Result<((u8, u32), &[u8]), Stop>
     requires { 0 < threads }
     ensures { Gives (λ x. (x.0, x.1.now)) result (exited_at threads bytes.now) }
 {
     let (tid, rest) = byte_of(bytes, 0, threads - 1)?;
     let (code, rest) = u32_of(rest)?;
-    Ok((End::Exited { tid, code }, rest))
+    Ok(((tid, code), rest))
 }
 
+/// A thread of so many, and why it faulted.
 #[tactic(auto, unfolding(crate::specs::Reading::faulted_at))]
-fn faulted_of(threads: u8, bytes: &[u8]) -> Result<(End, &[u8]), Stop>
+fn faulted_of(threads: u8, bytes: &[u8]) -> Result<((u8, Cause), &[u8]), Stop>
     requires { 0 < threads }
     ensures { Gives (λ x. (x.0, x.1.now)) result (faulted_at threads bytes.now) }
 {
     let (tid, rest) = byte_of(bytes, 0, threads - 1)?;
-    let (code, rest) = byte_of(rest, 1, 7)?;
-    let cause = cause_of_code(code);
-    Ok((End::Faulted { tid, cause }, rest))
+    let (cause, rest) = cause_of(rest)?;
+    Ok(((tid, cause), rest))
 }
 
-#[tactic(auto, unfolding(crate::specs::Reading::end_at))]
+#[tactic(auto, unfolding(crate::specs::Reading::end_at, crate::specs::Reading::end_fields_at))]
 fn end_of(threads: u8, bytes: &[u8]) -> Result<(End, &[u8]), Stop>
     requires { 0 < threads }
     ensures { Gives (λ x. (x.0, x.1.now)) result (end_at threads bytes.now) }
@@ -223,8 +232,14 @@ fn end_of(threads: u8, bytes: &[u8]) -> Result<(End, &[u8]), Stop>
     let (kind, rest) = byte_of(bytes, 0, 3)?;
     match kind {
         0 => Ok((End::Cut, rest)),
-        1 => exited_of(threads, rest),
-        2 => faulted_of(threads, rest),
+        1 => {
+            let ((tid, code), rest) = exited_of(threads, rest)?;
+            Ok((End::Exited { tid, code }, rest))
+        }
+        2 => {
+            let ((tid, cause), rest) = faulted_of(threads, rest)?;
+            Ok((End::Faulted { tid, cause }, rest))
+        }
         _ => Ok((End::AllDone, rest)),
     }
 }
