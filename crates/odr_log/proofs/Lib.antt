@@ -5,3 +5,4 @@ pub mod Bytes
 pub mod Lists
 pub mod Threads
 pub mod Calls
+pub mod Logs

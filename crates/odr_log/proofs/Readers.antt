@@ -188,3 +188,31 @@ pair-reader {A} {B} F t p H u q one two d h =
           made = λ x g. (x.1, g.0.1, λ i. (g.1 i, x.1));
         }))
         (record { fits = λ x g. g.0; text = λ x g. refl; some = λ a f. ((a, d), (f, h), refl) })
+
+-- the same reader, of a spelling that is told in other words
+pub text-reader : {X : Type 0} (F : X → Type 0) (t s : X → List ℕ) (p : List ℕ → Result (X × List ℕ) ℕ) → IsReader F t p → ((x : X) → F x → s x ≡ t x) → IsReader F s p
+text-reader F t s p one same = record {
+  takes = λ bytes x rest fits e. let h = one.takes bytes x rest fits e in (h.0 ∙ ap (λ text. text ++ rest) (sym (same x h.1)), h.1, h.2);
+  again = λ x rest f. ap (λ text. p (text ++ rest)) (same x f) ∙ one.again x rest f;
+  stuck = λ bytes left fits e.
+      let S = one.stuck bytes left fits e in
+      record {
+        front = S.front;
+        rest = S.rest;
+        parts = S.parts;
+        left_is = S.left_is;
+        value = S.value;
+        tail = S.tail;
+        fits = S.fits;
+        goes_on = same S.value S.fits ∙ S.goes_on;
+        stops = λ b after rest_is x more others f text_is. S.stops b after rest_is x more others f (ap (λ text. text ++ more) (sym (same x f)) ∙ text_is);
+      };
+}
+
+-- the same spelling, of a reader that gives the same
+pub same-reader : {X : Type 0} (F : X → Type 0) (t : X → List ℕ) (p q : List ℕ → Result (X × List ℕ) ℕ) → IsReader F t p → ((bytes : List ℕ) → q bytes ≡ p bytes) → IsReader F t q
+same-reader F t p q one same = record {
+  takes = λ bytes x rest fits e. one.takes bytes x rest fits (sym (same bytes) ∙ e);
+  again = λ x rest f. same (t x ++ rest) ∙ one.again x rest f;
+  stuck = λ bytes left fits e. one.stuck bytes left fits (sym (same bytes) ∙ e);
+}
