@@ -6,3 +6,4 @@ pub mod Lists
 pub mod Threads
 pub mod Calls
 pub mod Logs
+pub mod Whole

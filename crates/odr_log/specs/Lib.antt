@@ -3,3 +3,4 @@ pub mod Tape
 pub mod Same
 pub mod SameLaws
 pub mod Reading
+pub mod Faults

@@ -2,6 +2,7 @@
 //! of all threads, and the end. Who won a data race is not kept.
 #![tactic(auto)]
 
+pub mod fault;
 pub mod log;
 mod reading;
 mod same;
