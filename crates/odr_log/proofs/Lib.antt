@@ -7,3 +7,4 @@ pub mod Threads
 pub mod Calls
 pub mod Logs
 pub mod Whole
+pub mod Replies

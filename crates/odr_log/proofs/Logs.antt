@@ -320,7 +320,7 @@ unfolding least
 least_fits = some_log (still ∷ []) (record { some_thread = omega arith; few_threads = omega arith; each = All-replicate IsThread 1 still still_fits })
 
 pub log-reader : IsReader IsInGrammar log_bytes log_at
-unfolding log_at
+unfolding log_at log_bytes
 log-reader =
     let mark = codes "ODRL" ++ 1 ∷ [] in
     text-reader IsInGrammar (λ z. mark ++ behind_mark z) log_bytes log_at

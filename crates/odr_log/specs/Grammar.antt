@@ -99,7 +99,7 @@ end_bytes (end.Faulted tid cause) = 2 ∷ tid ∷ cause_code cause ∷ []
 end_bytes end.AllDone = 3 ∷ []
 
 -- the one spelling of a log
-abbrev pub log_bytes : Log → List ℕ
+unfoldable pub log_bytes : Log → List ℕ
 log_bytes log = codes "ODRL" ++ log.version ∷ length log.threads
     ∷ (flat_map thread_bytes log.threads ++ (list_bytes record_bytes log.calls ++ end_bytes log.end))
 

@@ -4,6 +4,9 @@
 
 pub mod fault;
 pub mod log;
+mod first_form;
+mod limits;
 mod reading;
 mod same;
+mod steps;
 mod stop;
