@@ -1,7 +1,7 @@
 -- What reading all bytes tells: the log that has them, or where they stop to be one.
 use Rattle.std.proofs.Common.{◌≡◌, ◌≢◌, ℕ, zero, suc, ◌+◌, ◌-◌, ◌<◌, ◌≤◌, Bool, true, false, cond, eqb, List, [], ◌∷◌, ◌++◌, length, take, drop, Result, Ok, Err, refl, sym, ap, subst, ◌∙◌, append_assoc, arith, inl, inr}
 use Rattle.std.specs.Prelude.{◌⊎◌}
-use Rattle.std.proofs.lemmas.Bool.{eqb-true, eqb-false}
+use Rattle.std.proofs.lemmas.Bool.{eqb-true, eqb-false, cases_order}
 use Rattle.std.proofs.lemmas.List.{append-nil, nil_from_length, length-append, take_at, take-append-le, take-append-drop}
 use Rattle.odr_log.specs.declared.log.Log.{Log}
 use Rattle.odr_log.specs.Grammar.{log_bytes, IsInGrammar}
@@ -126,3 +126,25 @@ whole-cases bytes left fits (Err k) is e =
 pub whole-stuck : (bytes : List ℕ) (left : ℕ) → IsBytes bytes → whole_at bytes ≡ Err left → (left ≤ length bytes) × FirstBad bytes (length bytes - left)
 unfolding whole_at
 whole-stuck bytes left fits e = whole-cases bytes left fits (log_at bytes) refl e
+
+-- ---- the place where bytes stop to be a log is one, and they are no log
+
+shorter-begins : (bytes rest : List ℕ) (n : ℕ) (log : Log) → IsInGrammar log → log_bytes log ≡ bytes ++ rest → BeginsLog (take n bytes)
+shorter-begins bytes rest n log grammar e =
+    (log, drop n bytes ++ rest, grammar, e ∙ ap (λ text. text ++ rest) (sym (take-append-drop n bytes)) ∙ append_assoc (take n bytes) (drop n bytes) rest)
+
+pub first_bad-no_log : (bytes : List ℕ) (p : ℕ) → FirstBad bytes p → (log : Log) → IsInGrammar log → bytes ≡ log_bytes log → ⊥
+first_bad-no_log bytes p (inl w) log grammar spelled = w.wrong (shorter-begins bytes [] (p + 1) log grammar (sym spelled ∙ sym (append-nil bytes)))
+first_bad-no_log bytes p (inr c) log grammar spelled =
+    c.more (no_prefix log c.log c.rest grammar c.grammar (c.goes_on ∙ ap (λ text. text ++ c.rest) spelled)).1
+
+pub first_bad-one : (bytes : List ℕ) (p q : ℕ) → FirstBad bytes p → FirstBad bytes q → p ≡ q
+first_bad-one bytes p q (inl a) (inl b) =
+    elim (cases_order p q) [
+      | inl same ↦ same
+      | inr (inl lt) ↦ absurd (a.wrong (b.before p lt))
+      | inr (inr gt) ↦ absurd (b.wrong (a.before q gt))
+    ]
+first_bad-one bytes p q (inl a) (inr b) = absurd (a.wrong (shorter-begins bytes b.rest (p + 1) b.log b.grammar b.goes_on))
+first_bad-one bytes p q (inr a) (inl b) = absurd (b.wrong (shorter-begins bytes a.rest (q + 1) a.log a.grammar a.goes_on))
+first_bad-one bytes p q (inr a) (inr b) = a.at_end ∙ sym b.at_end

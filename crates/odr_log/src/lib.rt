@@ -6,6 +6,7 @@ pub mod fault;
 pub mod log;
 mod first_form;
 mod limits;
+mod read;
 mod reading;
 mod same;
 mod steps;

@@ -1,0 +1,34 @@
+ghost use Rattle.std.specs.Prelude.{◌≡◌, ◌↔◌, ℕ, Ok, Err};
+ghost use Rattle.odr_log.specs.Grammar.{IsLog};
+ghost use Rattle.odr_log.specs.Faults.{UnlessMemory, FitsFile, IsTooLarge, FirstBad};
+ghost use Rattle.odr_log.specs.declared.log.Log.{Log};
+
+use crate::fault::LogFault;
+use crate::limits::{MOST_BYTES, MOST_STEPS};
+use crate::log::Log;
+use crate::reading::whole_of;
+use crate::stop::Stop;
+use std::alloc::Global;
+
+/// The valid log that has these bytes.
+pub fn read_log(alloc: Global, bytes: &[u8]) -> Result<Log, LogFault>
+    ensures ok { UnlessMemory result ((log : Log) → (result ≡ Ok log) ↔ (FitsFile bytes.now × IsLog bytes.now log)) }
+    ensures too_large { UnlessMemory result ((result ≡ Err LogFault.TooLarge) ↔ IsTooLarge bytes.now) }
+    ensures bad { UnlessMemory result ((offset : ℕ) → (result ≡ Err (LogFault.Bad offset)) ↔ (FitsFile bytes.now × FirstBad bytes.now offset)) }
+{
+    if bytes.len() > MOST_BYTES {
+        return Err(LogFault::TooLarge);
+    }
+    let log = match whole_of(alloc, bytes) {
+        Ok(log) => log,
+        Err(Stop::Bad { left }) => {
+            let offset = (bytes.len() - left) as u64;
+            return Err(LogFault::Bad { offset });
+        }
+        Err(Stop::Memory) => return Err(LogFault::Memory),
+    };
+    if log.steps() > MOST_STEPS {
+        return Err(LogFault::TooLarge);
+    }
+    Ok(log)
+}
