@@ -75,13 +75,6 @@ log-answers bytes log small fits read few =
       bad = λ offset. (λ e. absurd cc, λ h. absurd (first_bad-no_log bytes offset h.1 log took.0 took.1));
     }
 
-pub long-answers : (bytes : List ℕ) → 67108864 < length bytes → Answers bytes (Err fault.TooLarge)
-long-answers bytes long = record {
-  ok = λ other. (λ e. absurd cc, λ h. let small = h.0 in absurd (omega arith));
-  too_large = (λ e. inl long, λ large. refl);
-  bad = λ offset. (λ e. absurd cc, λ h. let small = h.0 in absurd (omega arith));
-}
-
 pub many-answers : (bytes : List ℕ) (log : Log) → FitsFile bytes → IsBytes bytes → whole_at bytes ≡ Ok log → 250000 < steps_of log → Answers bytes (Err fault.TooLarge)
 many-answers bytes log small fits read many =
     let took = whole-takes bytes log fits read in

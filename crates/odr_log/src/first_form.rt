@@ -38,7 +38,7 @@ fn has_first_form(log: &Log) -> bool
             .calls
             .as_slice()
             .iter()
-            .all(|record| is_first_call(&record.call))
+            .all(|made| is_first_call(&made.call))
 }
 
 /// The log of the first form that has these bytes, or none.

@@ -11,3 +11,4 @@ mod reading;
 mod same;
 mod steps;
 mod stop;
+mod write;

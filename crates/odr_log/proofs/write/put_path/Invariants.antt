@@ -1,0 +1,7 @@
+use Rattle.std.proofs.Common.{◌≡◌, ◌++◌, take}
+use Rattle.std.specs.List.{flat_map}
+use Rattle.odr_log.specs.Grammar.{item_bytes}
+use Rattle.odr_log.proofs.write.put_path.Given as goal
+
+abbrev pub invariant-loop-item : goal.invariant-loop-item
+invariant-loop-item l = l.out.items ≡ l.initial.out.items ++ flat_map item_bytes (take l.item-index l.path)
