@@ -42,7 +42,7 @@ flag-reader = made-reader (IsBetween 0 1) one_byte (byte_at 0 1) Any flag_bytes 
 
 -- ---- texts
 
-below-from_All : (bytes : List ℕ) → All (λ b. b < 256) bytes → IsBytes bytes
+pub below-from_All : (bytes : List ℕ) → All (λ b. b < 256) bytes → IsBytes bytes
 below-from_All bytes h i =
     elim (cases_lt i (length bytes)) [
       | inl lt ↦ h i 0 lt

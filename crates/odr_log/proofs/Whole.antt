@@ -1,14 +1,15 @@
 -- What reading all bytes tells: the log that has them, or where they stop to be one.
-use Rattle.std.proofs.Common.{◌≡◌, ◌≢◌, ℕ, zero, suc, ◌+◌, ◌-◌, ◌<◌, ◌≤◌, Bool, true, false, cond, eqb, List, [], ◌∷◌, ◌++◌, length, take, drop, Result, Ok, Err, refl, sym, ap, subst, ◌∙◌, append_assoc, arith, inl, inr}
+use Rattle.std.proofs.Common.{◌≡◌, ◌≢◌, ℕ, zero, suc, ◌+◌, ◌-◌, ◌<◌, ◌≤◌, Bool, true, false, cond, eqb, List, [], ◌∷◌, ◌++◌, length, take, drop, All, Result, Ok, Err, refl, sym, ap, subst, ◌∙◌, append_assoc, arith, inl, inr}
 use Rattle.std.specs.Prelude.{◌⊎◌}
 use Rattle.std.proofs.lemmas.Bool.{eqb-true, eqb-false, cases_order}
 use Rattle.std.proofs.lemmas.List.{append-nil, nil_from_length, length-append, take_at, take-append-le, take-append-drop}
 use Rattle.odr_log.specs.declared.log.Log.{Log}
 use Rattle.odr_log.specs.Grammar.{log_bytes, IsInGrammar}
-use Rattle.odr_log.specs.Faults.{BeginsLog, IsFirstWrong, IsCutOff, FirstBad}
+use Rattle.odr_log.specs.Faults.{IsSomeLog, BeginsLog, IsFirstWrong, IsCutOff, FirstBad}
 use Rattle.odr_log.specs.Reading.{◌>>=◌, log_at, whole_at}
 use Rattle.odr_log.proofs.Fields.{bind_ok, ok_is}
 use Rattle.odr_log.proofs.Readers.{IsBytes, Stuck, one_text}
+use Rattle.odr_log.proofs.Threads.{below-from_All}
 use Rattle.odr_log.proofs.Logs.{log-reader}
 
 -- ---- the law of prefixes
@@ -148,3 +149,10 @@ first_bad-one bytes p q (inl a) (inl b) =
 first_bad-one bytes p q (inl a) (inr b) = absurd (a.wrong (shorter-begins bytes b.rest (p + 1) b.log b.grammar b.goes_on))
 first_bad-one bytes p q (inr a) (inl b) = absurd (b.wrong (shorter-begins bytes a.rest (q + 1) a.log a.grammar a.goes_on))
 first_bad-one bytes p q (inr a) (inr b) = a.at_end ∙ sym b.at_end
+
+some-cases : (bytes : List ℕ) → IsBytes bytes → (read : Result Log ℕ) → whole_at bytes ≡ read → (IsSomeLog bytes → ⊥) → (p : ℕ) × FirstBad bytes p
+some-cases bytes fits (Ok log) is none = let took = whole-takes bytes log fits is in absurd (none (log, took.0, took.1))
+some-cases bytes fits (Err left) is none = (length bytes - left, (whole-stuck bytes left fits is).1)
+
+pub some_first_bad : (bytes : List ℕ) → All (λ byte. byte < 256) bytes → (IsSomeLog bytes → ⊥) → (p : ℕ) × FirstBad bytes p
+some_first_bad bytes all none = some-cases bytes (below-from_All bytes all) (whole_at bytes) refl none

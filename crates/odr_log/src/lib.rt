@@ -5,10 +5,12 @@
 pub mod fault;
 pub mod log;
 mod first_form;
+mod laws;
 mod limits;
 mod read;
 mod reading;
 mod same;
 mod steps;
 mod stop;
+mod streams;
 mod write;
