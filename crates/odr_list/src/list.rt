@@ -1,4 +1,4 @@
-ghost use Rattle.std.specs.Prelude.{◌≡◌, ◌↔◌, List, [], ◌∷◌, ◌++◌, length, IsTrue, is_ok, if◌then◌else◌};
+ghost use Rattle.std.specs.Prelude.{◌≡◌, ◌<◌, ◌↔◌, List, [], ◌∷◌, ◌++◌, length, slice_set, IsTrue, is_ok, if◌then◌else◌};
 
 use crate::memory::Memory;
 use std::alloc::Global;
@@ -66,6 +66,14 @@ impl<T> List<T> {
 }
 
 impl<T: Drop> List<T> {
+    /// Replaces an item.
+    pub fn set(&mut self, at: usize, item: T)
+        requires { at < length self.old }
+        ensures { self.new ≡ slice_set self.old at item }
+    {
+        self.items[at] = item;
+    }
+
     /// Appends an item; want of memory leaves the list as it was.
     pub fn push(&mut self, item: T) -> Result<(), Memory>
         ensures { self.new ≡ (if is_ok result then self.old ++ item ∷ [] else self.old) }
