@@ -1,0 +1,10 @@
+pub mod Values
+pub mod Thread
+pub mod Calls
+pub mod Instruction
+pub mod Step
+pub mod Run
+pub mod Law
+pub mod Newest
+pub mod Short
+pub mod Met
