@@ -10,7 +10,7 @@ use Rattle.elf_image.specs.Layout.{Layout, region_at}
 abbrev pub Cells : Type 0
 Cells = ℕ → Option Cell
 
--- Thread t has the 16,384 bytes from 0x70000000 + t * 0x10000, readable and writable, and zero in the beginning.
+-- Eight stacks, 0x10000 apart, the first at 0x70000000. Each has 16,384 bytes that may be read and written, and are zero in the beginning.
 abbrev pub in_stack : ℕ → Bool
 in_stack address = nat_le 0x70000000 address && nat_lt address 0x70080000 && nat_lt ((address - 0x70000000) % 0x10000) 16384
 

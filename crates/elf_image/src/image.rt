@@ -20,9 +20,9 @@ use std::alloc::Global;
 use std::marker::Model;
 
 /// The image of a program: its regions and the address of its first instruction. Contracts see it as a
-/// `Layout`. It has 1 to 16 regions, none empty, all below `0x7000_0000`, no two of which share an address,
-/// none both writable and executable, of at most 1,048,576 bytes together, and the word at its entry can be
-/// fetched.
+/// `Layout`. Every image can be run: there is an instruction word at its entry. Its regions, at most 16 with
+/// at most 1,048,576 bytes in all, have bytes, stand apart from each other and below the stacks, and what can
+/// be executed can't be written.
 #[derive(Debug, Drop)]
 pub struct Image {
     regions: List<Region>,
@@ -103,8 +103,8 @@ impl Image {
         self.entry
     }
 
-    /// The instruction word at an address, its low byte first. None where the address isn't a multiple of
-    /// four, or one of its four bytes is in no executable region.
+    /// The instruction word at an address, its low byte first. An instruction stands at a multiple of four,
+    /// and all its bytes may be executed; None elsewhere.
     pub fn fetch(&self, pc: u32) -> Option<u32>
         ensures { result ≡ fetch_of self.now pc }
     {

@@ -3,8 +3,8 @@ ghost use Rattle.elf_image.specs.Memory.{stack_cell};
 
 use crate::cell::Cell;
 
-/// The byte at an address outside all regions, before the first step: zero in a stack. Thread t has the
-/// 16,384 bytes from `0x7000_0000 + t * 0x1_0000`, and there are eight threads.
+/// The byte at an address outside all regions, before the first step. The eight stacks begin
+/// `0x1_0000` apart, the first at `0x7000_0000`, and each has 16,384 bytes, all zero.
 pub fn stack_cell(address: u32) -> Option<Cell>
     ensures { result ≡ stack_cell address }
 {
