@@ -206,7 +206,7 @@ number-reader w limit wide = record {
       let rest_is : drop (byte_len w) bytes ≡ rest = ap (λ (p : ℕ × List ℕ). p.1) h.1 in
       let long : byte_len w ≤ length bytes = ltb-false _ _ h.0 in
       let front : to_le_bytes w n ≡ take (byte_len w) bytes =
-          rw (← n_is) (wide.back (take (byte_len w) bytes) (omega (arith, length-take (byte_len w) bytes)) (IsBytes-take (byte_len w) bytes fits)) in
+      rw (← n_is) (wide.back (take (byte_len w) bytes) (omega (arith, length-take (byte_len w) bytes)) (IsBytes-take (byte_len w) bytes fits)) in
       (rw (front, ← rest_is) (sym (take-append-drop (byte_len w) bytes)), rw (← n_is) (wide.below (take (byte_len w) bytes) (IsBytes-take (byte_len w) bytes fits)), rw (← rest_is) (IsBytes-drop (byte_len w) bytes fits));
   again = λ n rest lt.
       let len = wide.len n in

@@ -243,41 +243,41 @@ call-reader : (threads tid at kind : ℕ) → tid < threads → at < 2 ^ 32 → 
     → IsReader (λ z. ((IsRecord threads z × (z.tid ≡ tid)) × (z.at ≡ at)) × (kind_of z.call ≡ kind)) behind_kind (call_with tid at kind)
 call-reader threads tid at kind tid_fits at_fits kind_fits =
     made-reader (IsOfKind kind) fields_of (fields_at kind) (λ z. ((IsRecord threads z × (z.tid ≡ tid)) × (z.at ≡ at)) × (kind_of z.call ≡ kind)) behind_kind
-        (λ c. record { tid = tid; at = at; call = c }) (fields-reader kind kind_fits)
-        (record {
-          some = λ c g. ((((record { tid = tid_fits; at = at_fits; call = g.0 }, refl), refl), g.1), refl);
-          made = λ z g. (z.call, (g.0.0.0.call, g.1), λ i. record { tid = g.0.0.1 i; at = g.0.1 i; call = z.call });
-        })
+    (λ c. record { tid = tid; at = at; call = c }) (fields-reader kind kind_fits)
+    (record {
+      some = λ c g. ((((record { tid = tid_fits; at = at_fits; call = g.0 }, refl), refl), g.1), refl);
+      made = λ z g. (z.call, (g.0.0.0.call, g.1), λ i. record { tid = g.0.0.1 i; at = g.0.1 i; call = z.call });
+    })
 
 kind-reader : (threads tid at : ℕ) → tid < threads → at < 2 ^ 32 → IsReader (λ z. (IsRecord threads z × (z.tid ≡ tid)) × (z.at ≡ at)) behind_at (kind_with tid at)
 kind-reader threads tid at tid_fits at_fits =
     then-reader (IsBetween 0x01 0x0e) one_byte (byte_at 0x01 0x0e) (λ z. (IsRecord threads z × (z.tid ≡ tid)) × (z.at ≡ at)) behind_at (λ z. kind_of z.call) behind_kind (call_with tid at)
-        (byte-reader 0x01 0x0e (omega arith)) (λ kind kind_fits. call-reader threads tid at kind tid_fits at_fits kind_fits)
-        (record {
-          fits = λ z g. kind-known z.call;
-          text = λ z g. refl;
-          some = λ kind kind_fits.
-              let c = some_call kind kind_fits in
-              (record { tid = tid; at = at; call = c.0 }, ((record { tid = tid_fits; at = at_fits; call = c.1 }, refl), refl), c.2);
-        })
+    (byte-reader 0x01 0x0e (omega arith)) (λ kind kind_fits. call-reader threads tid at kind tid_fits at_fits kind_fits)
+    (record {
+      fits = λ z g. kind-known z.call;
+      text = λ z g. refl;
+      some = λ kind kind_fits.
+          let c = some_call kind kind_fits in
+          (record { tid = tid; at = at; call = c.0 }, ((record { tid = tid_fits; at = at_fits; call = c.1 }, refl), refl), c.2);
+    })
 
 at-reader : (threads tid : ℕ) → tid < threads → IsReader (λ z. IsRecord threads z × (z.tid ≡ tid)) behind_tid (at_with tid)
 at-reader threads tid tid_fits =
     then-reader (λ n. n < 2 ^ 32) (to_le_bytes w32) (number_at w32) (λ z. IsRecord threads z × (z.tid ≡ tid)) behind_tid (λ z. z.at) behind_at (kind_with tid)
-        word-reader (λ at at_fits. kind-reader threads tid at tid_fits at_fits)
-        (record {
-          fits = λ z g. g.0.at;
-          text = λ z g. refl;
-          some = λ at at_fits. (record { tid = tid; at = at; call = call.EndThread }, (record { tid = tid_fits; at = at_fits; call = tt }, refl), refl);
-        })
+    word-reader (λ at at_fits. kind-reader threads tid at tid_fits at_fits)
+    (record {
+      fits = λ z g. g.0.at;
+      text = λ z g. refl;
+      some = λ at at_fits. (record { tid = tid; at = at; call = call.EndThread }, (record { tid = tid_fits; at = at_fits; call = tt }, refl), refl);
+    })
 
 pub record-reader : (threads : ℕ) → 0 < threads → IsReader (IsRecord threads) record_bytes (record_at threads)
 unfolding record_at
 record-reader threads some =
     then-reader (IsBetween 0 (threads - 1)) one_byte (byte_at 0 (threads - 1)) (IsRecord threads) record_bytes (λ z. z.tid) behind_tid at_with
-        (byte-reader 0 (threads - 1) (omega arith)) (λ tid fits. at-reader threads tid (omega arith))
-        (record {
-          fits = λ z g. let tid_fits = g.tid in (omega arith, omega arith);
-          text = λ z g. refl;
-          some = λ tid fits. (record { tid = tid; at = 0; call = call.EndThread }, record { tid = omega arith; at = omega arith; call = tt }, refl);
-        })
+    (byte-reader 0 (threads - 1) (omega arith)) (λ tid fits. at-reader threads tid (omega arith))
+    (record {
+      fits = λ z g. let tid_fits = g.tid in (omega arith, omega arith);
+      text = λ z g. refl;
+      some = λ tid fits. (record { tid = tid; at = 0; call = call.EndThread }, record { tid = omega arith; at = omega arith; call = tt }, refl);
+    })

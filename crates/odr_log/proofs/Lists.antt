@@ -42,13 +42,13 @@ list-reader {T} F t p one d fits (suc n) =
     let G = AreListed F (suc n) in
     let rest_text : List T → List ℕ = λ xs. flat_map t (tail_of xs) in
     then-reader F t p G (flat_map t) (head_or d) rest_text (λ first bytes. list_at p n bytes >>= λ others. Ok (first ∷ others.0, others.1)) one
-        (λ x f. made-reader (AreListed F n) (flat_map t) (list_at p n) (λ xs. G xs × (head_or d xs ≡ x)) rest_text (λ others. x ∷ others) (list-reader F t p one d fits n)
-            (record {
-              some = λ others g. (((ap suc g.0, (f, g.1)), refl), refl);
-              made = λ xs g. (tail_of xs, tail-listed F n xs g.0, head-tail F d n xs g.0 ∙ ap (λ y. y ∷ tail_of xs) g.1);
-            }))
-        (record {
-          fits = λ xs g. head-fits F d n xs g;
-          text = λ xs g. ap (flat_map t) (head-tail F d n xs g);
-          some = λ x f. (x ∷ replicate n d, (ap suc (copies F d fits n).0, (f, (copies F d fits n).1)), refl);
-        })
+    (λ x f. made-reader (AreListed F n) (flat_map t) (list_at p n) (λ xs. G xs × (head_or d xs ≡ x)) rest_text (λ others. x ∷ others) (list-reader F t p one d fits n)
+    (record {
+      some = λ others g. (((ap suc g.0, (f, g.1)), refl), refl);
+      made = λ xs g. (tail_of xs, tail-listed F n xs g.0, head-tail F d n xs g.0 ∙ ap (λ y. y ∷ tail_of xs) g.1);
+    }))
+    (record {
+      fits = λ xs g. head-fits F d n xs g;
+      text = λ xs g. ap (flat_map t) (head-tail F d n xs g);
+      some = λ x f. (x ∷ replicate n d, (ap suc (copies F d fits n).0, (f, (copies F d fits n).1)), refl);
+    })

@@ -156,10 +156,10 @@ mark-reader {Z} G u q one d g (want ∷ mark) =
     let behind : Z → List ℕ = λ z. mark ++ u z in
     let rest : List ℕ → Result (Z × List ℕ) ℕ = λ bytes. mark_at mark bytes >>= q in
     same-reader G (λ z. (want ∷ mark) ++ u z) (λ bytes. byte_at want want bytes >>= λ b. rest b.1) (λ bytes. mark_at (want ∷ mark) bytes >>= q)
-        (then-reader (IsBetween want want) one_byte (byte_at want want) G (λ z. (want ∷ mark) ++ u z) (λ _. want) behind (λ _. rest) (byte-reader want want (omega arith))
-            (λ b f. fits-reader G (λ z. G z × (want ≡ b)) behind rest (mark-reader G u q one d g mark) (λ z h. let lo = f.0 in let hi = f.1 in (h, omega arith)) (λ z h. h.0))
-            (record { fits = λ z h. (omega arith, omega arith); text = λ z h. refl; some = λ b f. let lo = f.0 in let hi = f.1 in (d, g, omega arith) }))
-        (λ bytes. assoc (byte_at want want bytes) (λ b. mark_at mark b.1) q)
+    (then-reader (IsBetween want want) one_byte (byte_at want want) G (λ z. (want ∷ mark) ++ u z) (λ _. want) behind (λ _. rest) (byte-reader want want (omega arith))
+    (λ b f. fits-reader G (λ z. G z × (want ≡ b)) behind rest (mark-reader G u q one d g mark) (λ z h. let lo = f.0 in let hi = f.1 in (h, omega arith)) (λ z h. h.0))
+    (record { fits = λ z h. (omega arith, omega arith); text = λ z h. refl; some = λ b f. let lo = f.0 in let hi = f.1 in (d, g, omega arith) }))
+    (λ bytes. assoc (byte_at want want bytes) (λ b. mark_at mark b.1) q)
 
 -- ---- the body: the calls and the end, behind the threads
 
@@ -208,13 +208,13 @@ with_end-reader threads count calls some few all =
     let n = length threads in
     let some_thread = some.some_thread in
     made-reader (IsEnd n) end_bytes (end_at n) (HasCalls threads count calls) behind_calls (made_log threads calls) (end-reader n (omega arith))
-        (record {
-          some = λ e h. ((((in_grammar threads calls e some (rw all.0 few) (All-from_recursion (IsRecord n) calls all.1) h, refl), all.0), refl), refl);
-          made = λ z g.
-              let inside : IsInGrammar z = g.0.0.0 in
-              let threads_are : z.threads ≡ threads = g.0.0.1 in
-              (z.end, subst (λ t. IsEnd (length t) z.end) threads_are inside.end, λ i. record { version = inside.version i; threads = threads_are i; calls = g.1 i; end = z.end });
-        })
+    (record {
+      some = λ e h. ((((in_grammar threads calls e some (rw all.0 few) (All-from_recursion (IsRecord n) calls all.1) h, refl), all.0), refl), refl);
+      made = λ z g.
+          let inside : IsInGrammar z = g.0.0.0 in
+          let threads_are : z.threads ≡ threads = g.0.0.1 in
+          (z.end, subst (λ t. IsEnd (length t) z.end) threads_are inside.end, λ i. record { version = inside.version i; threads = threads_are i; calls = g.1 i; end = z.end });
+    })
 
 with_calls-reader : (threads : List ThreadLog) (count : ℕ) → AreThreads threads → count < 2 ^ 32 → IsReader (HasCount threads count) behind_count (calls_with threads count)
 with_calls-reader threads count some few =
@@ -223,16 +223,16 @@ with_calls-reader threads count some few =
     let idle : CallRec = record { tid = 0; at = 0; call = call.EndThread } in
     let idle_fits : IsRecord n idle = record { tid = omega arith; at = omega arith; call = tt } in
     then-reader (AreListed (IsRecord n) count) (flat_map record_bytes) (list_at (record_at n) count) (HasCount threads count) behind_count (λ z. z.calls) behind_calls (end_with threads)
-        (list-reader (IsRecord n) record_bytes (record_at n) (record-reader n (omega arith)) idle idle_fits count)
-        (λ calls all. with_end-reader threads count calls some few all)
-        (record {
-          fits = λ z g.
-              let inside : IsInGrammar z = g.0.0 in
-              (g.1, recursion_from_All (IsRecord n) z.calls (subst (λ t. All (IsRecord (length t)) z.calls) g.0.1 inside.calls));
-          text = λ z g. refl;
-          some = λ calls all.
-              (made_log threads calls end.Cut, ((in_grammar threads calls end.Cut some (rw all.0 few) (All-from_recursion (IsRecord n) calls all.1) tt, refl), all.0), refl);
-        })
+    (list-reader (IsRecord n) record_bytes (record_at n) (record-reader n (omega arith)) idle idle_fits count)
+    (λ calls all. with_end-reader threads count calls some few all)
+    (record {
+      fits = λ z g.
+          let inside : IsInGrammar z = g.0.0 in
+          (g.1, recursion_from_All (IsRecord n) z.calls (subst (λ t. All (IsRecord (length t)) z.calls) g.0.1 inside.calls));
+      text = λ z g. refl;
+      some = λ calls all.
+          (made_log threads calls end.Cut, ((in_grammar threads calls end.Cut some (rw all.0 few) (All-from_recursion (IsRecord n) calls all.1) tt, refl), all.0), refl);
+    })
 
 body-reader : (threads : List ThreadLog) → AreThreads threads → IsReader (HasThreads threads) behind_threads (body_at threads)
 unfolding body_at
@@ -242,15 +242,15 @@ body-reader threads some =
     let idle : CallRec = record { tid = 0; at = 0; call = call.EndThread } in
     let idle_fits : IsRecord n idle = record { tid = omega arith; at = omega arith; call = tt } in
     then-reader (λ n. n < 2 ^ 32) (to_le_bytes w32) (number_at w32) (HasThreads threads) behind_threads (λ z. length z.calls) behind_count (calls_with threads) word-reader
-        (λ count few. with_calls-reader threads count some few)
-        (record {
-          fits = λ z g. g.0.few_calls;
-          text = λ z g. append_assoc (little_bytes 4 (length z.calls)) (flat_map record_bytes z.calls) (end_bytes z.end);
-          some = λ count few.
-              let calls : List CallRec = replicate count idle in
-              let long : length calls ≡ count = length-replicate {A = CallRec} count idle in
-              (made_log threads calls end.Cut, (in_grammar threads calls end.Cut some (rw long few) (All-replicate (IsRecord n) count idle idle_fits) tt, refl), long);
-        })
+    (λ count few. with_calls-reader threads count some few)
+    (record {
+      fits = λ z g. g.0.few_calls;
+      text = λ z g. append_assoc (little_bytes 4 (length z.calls)) (flat_map record_bytes z.calls) (end_bytes z.end);
+      some = λ count few.
+          let calls : List CallRec = replicate count idle in
+          let long : length calls ≡ count = length-replicate {A = CallRec} count idle in
+          (made_log threads calls end.Cut, (in_grammar threads calls end.Cut some (rw long few) (All-replicate (IsRecord n) count idle idle_fits) tt, refl), long);
+    })
 
 -- ---- the log
 
@@ -286,30 +286,30 @@ some_log threads some = in_grammar threads [] end.Cut some (omega arith) (All-ni
 with_threads-reader : (n : ℕ) → IsBetween 1 8 n → IsReader (HasNumber n) behind_number (threads_with n)
 with_threads-reader n between =
     then-reader (AreListed IsThread n) (flat_map thread_bytes) (list_at thread_at n) (HasNumber n) behind_number (λ z. z.threads) behind_threads body_at
-        (list-reader IsThread thread_bytes thread_at thread-reader still still_fits n)
-        (λ threads all.
-            fits-reader (HasThreads threads) (λ z. HasNumber n z × (z.threads ≡ threads)) behind_threads (body_at threads) (body-reader threads (are_threads n threads between all))
-                (λ z h. ((h.0, ap length h.1 ∙ all.0), h.1)) (λ z h. (h.0.0, h.1)))
-        (record {
-          fits = λ z g. let inside : IsInGrammar z = g.0 in (g.1, recursion_from_All IsThread z.threads inside.threads);
-          text = λ z g. refl;
-          some = λ threads all. (made_log threads [] end.Cut, (some_log threads (are_threads n threads between all), all.0), refl);
-        })
+    (list-reader IsThread thread_bytes thread_at thread-reader still still_fits n)
+    (λ threads all.
+    fits-reader (HasThreads threads) (λ z. HasNumber n z × (z.threads ≡ threads)) behind_threads (body_at threads) (body-reader threads (are_threads n threads between all))
+    (λ z h. ((h.0, ap length h.1 ∙ all.0), h.1)) (λ z h. (h.0.0, h.1)))
+    (record {
+      fits = λ z g. let inside : IsInGrammar z = g.0 in (g.1, recursion_from_All IsThread z.threads inside.threads);
+      text = λ z g. refl;
+      some = λ threads all. (made_log threads [] end.Cut, (some_log threads (are_threads n threads between all), all.0), refl);
+    })
 
 number_reader : IsReader IsInGrammar behind_mark (λ bytes. byte_at 1 8 bytes >>= λ n. threads_with n.0 n.1)
 number_reader =
     then-reader (IsBetween 1 8) one_byte (byte_at 1 8) IsInGrammar behind_mark (λ z. length z.threads) behind_number threads_with (byte-reader 1 8 (omega arith))
-        with_threads-reader
-        (record {
-          fits = λ z g. (g.some_thread, g.few_threads);
-          text = λ z g. refl;
-          some = λ n between.
-              let threads : List ThreadLog = replicate n still in
-              let long : length threads ≡ n = length-replicate {A = ThreadLog} n still in
-              let lo = between.0 in
-              let hi = between.1 in
-              (made_log threads [] end.Cut, some_log threads (record { some_thread = omega arith; few_threads = omega arith; each = All-replicate IsThread n still still_fits }), long);
-        })
+    with_threads-reader
+    (record {
+      fits = λ z g. (g.some_thread, g.few_threads);
+      text = λ z g. refl;
+      some = λ n between.
+          let threads : List ThreadLog = replicate n still in
+          let long : length threads ≡ n = length-replicate {A = ThreadLog} n still in
+          let lo = between.0 in
+          let hi = between.1 in
+          (made_log threads [] end.Cut, some_log threads (record { some_thread = omega arith; few_threads = omega arith; each = All-replicate IsThread n still still_fits }), long);
+    })
 
 -- the least log: one thread of no step
 least : Log
@@ -324,5 +324,5 @@ unfolding log_at log_bytes
 log-reader =
     let mark = codes "ODRL" ++ 1 ∷ [] in
     text-reader IsInGrammar (λ z. mark ++ behind_mark z) log_bytes log_at
-        (mark-reader IsInGrammar behind_mark (λ bytes. byte_at 1 8 bytes >>= λ n. threads_with n.0 n.1) number_reader least least_fits mark)
-        (λ z g. ap (λ version. codes "ODRL" ++ version ∷ behind_mark z) g.version)
+    (mark-reader IsInGrammar behind_mark (λ bytes. byte_at 1 8 bytes >>= λ n. threads_with n.0 n.1) number_reader least least_fits mark)
+    (λ z g. ap (λ version. codes "ODRL" ++ version ∷ behind_mark z) g.version)

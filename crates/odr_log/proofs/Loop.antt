@@ -20,7 +20,7 @@ unfolding list_at
 goes_on value_at front count i bytes first after total lt h so_far =
     let k : count - i ≡ suc (count - (i + 1)) = omega arith in
     let one : with_front front (list_at value_at (count - i) bytes) ≡ with_front (front ++ first ∷ []) (list_at value_at (count - (i + 1)) after) =
-        rw (k, h) (regroup front first (list_at value_at (count - (i + 1)) after)) in
+    rw (k, h) (regroup front first (list_at value_at (count - (i + 1)) after)) in
     sym one ∙ so_far
 
 pub ends : {T : Type 0} (value_at : List ℕ → Result (T × List ℕ) ℕ) (e : Stop) (front : List T) (count i : ℕ) (bytes : List ℕ) (total : Result (List T × List ℕ) ℕ)

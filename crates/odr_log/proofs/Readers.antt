@@ -61,7 +61,7 @@ then-stuck F t p G s first u q one two split bytes left fits (Err k) is e =
       goes_on = split.text z.0 z.1 ∙ ap (λ x. t x ++ u z.0) z.2 ∙ ap (λ text. text ++ u z.0) S.goes_on ∙ append_assoc S.front S.tail (u z.0);
       stops = λ b after rest_is x more others g text_is.
           S.stops b after rest_is (first x) (u x ++ more) others (split.fits x g)
-              (sym (append_assoc (t (first x)) (u x) more) ∙ ap (λ text. text ++ more) (sym (split.text x g)) ∙ text_is);
+          (sym (append_assoc (t (first x)) (u x) more) ∙ ap (λ text. text ++ more) (sym (split.text x g)) ∙ text_is);
     }
 then-stuck F t p G s first u q one two split bytes left fits (Ok a) is e =
     let took = one.takes bytes a.0 a.1 fits is in
@@ -77,7 +77,7 @@ then-stuck F t p G s first u q one two split bytes left fits (Ok a) is e =
       goes_on = split.text S.value S.fits.0 ∙ ap (λ x. t x ++ u S.value) S.fits.1 ∙ ap (λ text. t a.0 ++ text) S.goes_on ∙ sym (append_assoc (t a.0) S.front S.tail);
       stops = λ b after rest_is x more others g text_is.
           let same = one_text one (first x) a.0 (u x ++ more) (S.front ++ (b ∷ others)) (split.fits x g) took.1
-              (sym (append_assoc (t (first x)) (u x) more) ∙ ap (λ text. text ++ more) (sym (split.text x g)) ∙ text_is ∙ append_assoc (t a.0) S.front (b ∷ others)) in
+          (sym (append_assoc (t (first x)) (u x) more) ∙ ap (λ text. text ++ more) (sym (split.text x g)) ∙ text_is ∙ append_assoc (t a.0) S.front (b ∷ others)) in
           S.stops b after rest_is x more others (g, same.0) same.1;
     }
 
@@ -95,7 +95,7 @@ then-reader {X} {Z} F t p G s first u q one two split = record {
   again = λ z rest g.
       let regrouped : s z ++ rest ≡ t (first z) ++ (u z ++ rest) = ap (λ text. text ++ rest) (split.text z g) ∙ append_assoc (t (first z)) (u z) rest in
       ap (then_at p q) regrouped ∙ ap (λ (r : Result (X × List ℕ) ℕ). r >>= λ a. q a.0 a.1) (one.again (first z) (u z ++ rest) (split.fits z g))
-          ∙ (two (first z) (split.fits z g)).again z rest (g, refl);
+      ∙ (two (first z) (split.fits z g)).again z rest (g, refl);
   stuck = λ bytes left fits e. then-stuck F t p G s first u q one two split bytes left fits (p bytes) refl e;
 }
 
@@ -183,11 +183,11 @@ pair-reader {A} {B} F t p H u q one two d h =
     let second_text : A × B → List ℕ = λ x. u x.1 in
     let both : A × B → Type 0 = λ x. F x.0 × H x.1 in
     then-reader F t p both (λ x. t x.0 ++ u x.1) (λ x. x.0) second_text (λ a bytes. mapped (λ b. (a, b)) (q bytes)) one
-        (λ a f. made-reader H u q (λ x. both x × (x.0 ≡ a)) second_text (λ b. (a, b)) two (record {
-          some = λ b g. (((f, g), refl), refl);
-          made = λ x g. (x.1, g.0.1, λ i. (g.1 i, x.1));
-        }))
-        (record { fits = λ x g. g.0; text = λ x g. refl; some = λ a f. ((a, d), (f, h), refl) })
+    (λ a f. made-reader H u q (λ x. both x × (x.0 ≡ a)) second_text (λ b. (a, b)) two (record {
+      some = λ b g. (((f, g), refl), refl);
+      made = λ x g. (x.1, g.0.1, λ i. (g.1 i, x.1));
+    }))
+    (record { fits = λ x g. g.0; text = λ x g. refl; some = λ a f. ((a, d), (f, h), refl) })
 
 -- the same reader, of a spelling that is told in other words
 pub text-reader : {X : Type 0} (F : X → Type 0) (t s : X → List ℕ) (p : List ℕ → Result (X × List ℕ) ℕ) → IsReader F t p → ((x : X) → F x → s x ≡ t x) → IsReader F s p

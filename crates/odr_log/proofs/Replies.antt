@@ -68,9 +68,10 @@ log-answers bytes log small fits read few =
     let took = whole-takes bytes log fits read in
     let valid : IsValid log = record { grammar = took.0; steps = few } in
     record {
-      ok = λ other.
-          (λ e. let same = same_log log other e in (small, (subst IsValid same valid, took.1 ∙ ap log_bytes same)),
-           λ h. ap good (the_log bytes log other read h.1.0.grammar h.1.1));
+      ok = λ other. (
+        λ e. let same = same_log log other e in (small, (subst IsValid same valid, took.1 ∙ ap log_bytes same)),
+        λ h. ap good (the_log bytes log other read h.1.0.grammar h.1.1),
+      );
       too_large = (λ e. absurd cc, λ large. absurd (not_both bytes log small valid took.1 large));
       bad = λ offset. (λ e. absurd cc, λ h. absurd (first_bad-no_log bytes offset h.1 log took.0 took.1));
     }
@@ -95,7 +96,8 @@ bad-answers bytes left small fits read =
     record {
       ok = λ other. (λ e. absurd cc, λ h. absurd (no_log bytes left other read h.1.0.grammar h.1.1));
       too_large = (λ e. absurd cc, λ large. absurd (stopped_large bytes left small read large));
-      bad = λ offset.
-          (λ e. (small, subst (FirstBad bytes) (same_offset (length bytes - left) offset e) stuck.1),
-           λ h. ap bad (first_bad-one bytes (length bytes - left) offset stuck.1 h.1));
+      bad = λ offset. (
+        λ e. (small, subst (FirstBad bytes) (same_offset (length bytes - left) offset e) stuck.1),
+        λ h. ap bad (first_bad-one bytes (length bytes - left) offset stuck.1 h.1),
+      );
     }

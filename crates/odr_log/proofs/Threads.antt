@@ -53,8 +53,8 @@ pub text-reader : IsReader IsText text_bytes text_at
 unfolding text_at
 text-reader = then-reader (λ n. n < 2 ^ 16) (to_le_bytes w16) (number_at w16) IsText text_bytes length these bytes_at (number-reader w16 (2 ^ 16) wide16)
     (λ n lt. fits-reader (AreBytes n) (λ z. IsText z × (length z ≡ n)) these (bytes_at n) (bytes-reader n)
-        (λ z h. ((omega (arith, h.0), All-from_get_or (λ b. b < 256) z 0 (λ i _. h.1 i)), h.0))
-        (λ z h. (h.1, below-from_All z h.0.1)))
+    (λ z h. ((omega (arith, h.0), All-from_get_or (λ b. b < 256) z 0 (λ i _. h.1 i)), h.0))
+    (λ z h. (h.1, below-from_All z h.0.1)))
     (record {
       fits = λ z g. g.0;
       text = λ z g. refl;
@@ -126,25 +126,25 @@ unfolding thread_at
 thread-reader =
     let path_text : ThreadLog → List ℕ = λ z. flat_map item_bytes z.path in
     then-reader (λ n. n < 2 ^ 32) (to_le_bytes w32) (number_at w32) IsThread thread_bytes (λ z. z.steps) (λ z. list_bytes item_bytes z.path)
-        (λ steps bytes. number_at w32 bytes >>= λ count. list_at item_at count.0 count.1 >>= λ path. Ok (record { steps = steps; path = path.0 }, path.1)) word-reader
-        (λ steps fits. then-reader (λ n. n < 2 ^ 32) (to_le_bytes w32) (number_at w32) (λ z. IsThread z × (z.steps ≡ steps)) (λ z. list_bytes item_bytes z.path) (λ z. length z.path) path_text
-            (λ count bytes. list_at item_at count bytes >>= λ path. Ok (record { steps = steps; path = path.0 }, path.1)) word-reader
-            (λ count lt. made-reader (AreListed IsItem count) (flat_map item_bytes) (list_at item_at count) (λ z. (IsThread z × (z.steps ≡ steps)) × (length z.path ≡ count)) path_text
-                (λ path. record { steps = steps; path = path }) (list-reader IsItem item_bytes item_at item-reader (item.Branch false) tt count)
-                (record {
-                  some = λ path h. (((record { steps = fits; items = rw h.0 lt; each = All-from_recursion IsItem path h.1 }, refl), h.0), refl);
-                  made = λ z g. (z.path, (g.1, recursion_from_All IsItem z.path g.0.0.each), λ i. record { steps = g.0.1 i; path = z.path });
-                }))
-            (record {
-              fits = λ z g. g.0.items;
-              text = λ z g. refl;
-              some = λ count lt.
-                  let path : List PathItem = replicate count (item.Branch false) in
-                  let long : length path ≡ count = length-replicate {A = PathItem} count (item.Branch false) in
-                  (record { steps = steps; path = path }, (record { steps = fits; items = rw long lt; each = All-replicate IsItem count (item.Branch false) tt }, refl), long);
-            }))
-        (record {
-          fits = λ z g. g.steps;
-          text = λ z g. refl;
-          some = λ steps lt. (record { steps = steps; path = [] }, record { steps = lt; items = omega arith; each = All-nil IsItem }, refl);
-        })
+    (λ steps bytes. number_at w32 bytes >>= λ count. list_at item_at count.0 count.1 >>= λ path. Ok (record { steps = steps; path = path.0 }, path.1)) word-reader
+    (λ steps fits. then-reader (λ n. n < 2 ^ 32) (to_le_bytes w32) (number_at w32) (λ z. IsThread z × (z.steps ≡ steps)) (λ z. list_bytes item_bytes z.path) (λ z. length z.path) path_text
+    (λ count bytes. list_at item_at count bytes >>= λ path. Ok (record { steps = steps; path = path.0 }, path.1)) word-reader
+    (λ count lt. made-reader (AreListed IsItem count) (flat_map item_bytes) (list_at item_at count) (λ z. (IsThread z × (z.steps ≡ steps)) × (length z.path ≡ count)) path_text
+    (λ path. record { steps = steps; path = path }) (list-reader IsItem item_bytes item_at item-reader (item.Branch false) tt count)
+    (record {
+      some = λ path h. (((record { steps = fits; items = rw h.0 lt; each = All-from_recursion IsItem path h.1 }, refl), h.0), refl);
+      made = λ z g. (z.path, (g.1, recursion_from_All IsItem z.path g.0.0.each), λ i. record { steps = g.0.1 i; path = z.path });
+    }))
+    (record {
+      fits = λ z g. g.0.items;
+      text = λ z g. refl;
+      some = λ count lt.
+          let path : List PathItem = replicate count (item.Branch false) in
+          let long : length path ≡ count = length-replicate {A = PathItem} count (item.Branch false) in
+          (record { steps = steps; path = path }, (record { steps = fits; items = rw long lt; each = All-replicate IsItem count (item.Branch false) tt }, refl), long);
+    }))
+    (record {
+      fits = λ z g. g.steps;
+      text = λ z g. refl;
+      some = λ steps lt. (record { steps = steps; path = [] }, record { steps = lt; items = omega arith; each = All-nil IsItem }, refl);
+    })

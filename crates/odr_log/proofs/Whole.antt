@@ -47,7 +47,7 @@ front-begins : (front rest tail : List ℕ) (log : Log) → IsInGrammar log → 
 front-begins front rest tail log grammar goes_on q lt =
     let cut : take (q + 1) (front ++ rest) ≡ take (q + 1) front = take-append-le (q + 1) front rest (omega arith) in
     let parts : front ++ tail ≡ take (q + 1) front ++ (drop (q + 1) front ++ tail) =
-        ap (λ text. text ++ tail) (sym (take-append-drop (q + 1) front)) ∙ append_assoc (take (q + 1) front) (drop (q + 1) front) tail in
+    ap (λ text. text ++ tail) (sym (take-append-drop (q + 1) front)) ∙ append_assoc (take (q + 1) front) (drop (q + 1) front) tail in
     (log, drop (q + 1) front ++ tail, grammar, goes_on ∙ parts ∙ ap (λ text. text ++ (drop (q + 1) front ++ tail)) (sym cut))
 
 one_more : (front : List ℕ) (b : ℕ) (after : List ℕ) → take (length front + 1) (front ++ b ∷ after) ≡ front ++ b ∷ []
@@ -78,27 +78,27 @@ first_bad bytes front (b ∷ after) tail left log parts left_is grammar goes_on 
       wrong = λ begins.
           let cut : take (length front + 1) bytes ≡ front ++ b ∷ [] = ap (take (length front + 1)) parts ∙ one_more front b after in
           stops b after refl begins.0 begins.1 begins.2
-              (begins.3 ∙ ap (λ text. text ++ begins.1) cut ∙ append_assoc front (b ∷ []) begins.1);
+          (begins.3 ∙ ap (λ text. text ++ begins.1) cut ∙ append_assoc front (b ∷ []) begins.1);
     } in
     inl (subst (IsFirstWrong bytes) place at_front)
 
 stuck-bad : (bytes : List ℕ) (left : ℕ) → log_at bytes ≡ Err left → Stuck IsInGrammar log_bytes bytes left → FirstBad bytes (length bytes - left)
 stuck-bad bytes left e s =
     first_bad bytes s.front s.rest s.tail left s.value s.parts s.left_is s.fits s.goes_on
-        (λ b after rest_is x others f text_is. s.stops b after rest_is x [] others f (append-nil (log_bytes x) ∙ text_is))
-        (λ at_end tail_is.
-            let is_log : bytes ≡ log_bytes s.value ++ [] =
-                s.parts ∙ ap (λ rest. s.front ++ rest) at_end ∙ append-nil s.front ∙ sym (s.goes_on ∙ ap (λ rest. s.front ++ rest) tail_is ∙ append-nil s.front) ∙ sym (append-nil (log_bytes s.value)) in
-            let read : log_at bytes ≡ Ok (s.value, []) = ap log_at is_log ∙ log-reader.again s.value [] s.fits in
-            absurd cc)
+    (λ b after rest_is x others f text_is. s.stops b after rest_is x [] others f (append-nil (log_bytes x) ∙ text_is))
+    (λ at_end tail_is.
+    let is_log : bytes ≡ log_bytes s.value ++ [] =
+    s.parts ∙ ap (λ rest. s.front ++ rest) at_end ∙ append-nil s.front ∙ sym (s.goes_on ∙ ap (λ rest. s.front ++ rest) tail_is ∙ append-nil s.front) ∙ sym (append-nil (log_bytes s.value)) in
+    let read : log_at bytes ≡ Ok (s.value, []) = ap log_at is_log ∙ log-reader.again s.value [] s.fits in
+    absurd cc)
 
 trailing-bad : (bytes : List ℕ) (log : Log) (rest : List ℕ) (left : ℕ) → bytes ≡ log_bytes log ++ rest → IsInGrammar log → length rest ≡ left → rest ≢ [] → FirstBad bytes (length bytes - left)
 trailing-bad bytes log rest left parts grammar left_is some =
     first_bad bytes (log_bytes log) rest [] left log parts left_is grammar (sym (append-nil (log_bytes log)))
-        (λ b after rest_is x others f text_is.
-            let none : b ∷ others ≡ [] = (no_prefix log x (b ∷ others) grammar f text_is).1 in
-            absurd cc)
-        (λ at_end. absurd (some at_end))
+    (λ b after rest_is x others f text_is.
+    let none : b ∷ others ≡ [] = (no_prefix log x (b ∷ others) grammar f text_is).1 in
+    absurd cc)
+    (λ at_end. absurd (some at_end))
 
 abbrev stop : {A : Type 0} → ℕ → Result A ℕ
 stop left = Err left

@@ -2,11 +2,11 @@
 //! of all threads, and the end. Who won a data race is not kept.
 #![tactic(auto)]
 
-pub mod fault;
-pub mod log;
+mod fault;
 mod first_form;
 mod laws;
 mod limits;
+pub mod log;
 mod read;
 mod reading;
 mod same;
@@ -14,3 +14,14 @@ mod steps;
 mod stop;
 mod streams;
 mod write;
+
+pub use fault::LogFault;
+pub use first_form::read_first;
+pub use laws::{one_first_bad, one_spelling};
+pub use limits::{MOST_BYTES, MOST_STEPS};
+pub use read::read_log;
+pub use streams::{output, tape};
+pub use write::write_log;
+
+#[cfg(test)]
+mod tests;

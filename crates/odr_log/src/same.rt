@@ -6,7 +6,6 @@ ghost use Rattle.odr_log.specs.Same.{same_end, same_item, same_thread, same_call
 use crate::log::{Call, CallRec, End, Log, PathItem, ThreadLog};
 
 impl End {
-
     /// Whether both are the same end.
     pub fn same(&self, other: &End) -> bool
         ensures { result ≡ same_end self.now other.now }
@@ -16,7 +15,6 @@ impl End {
 }
 
 impl PathItem {
-
     /// Whether both are the same item.
     pub fn same(&self, other: &PathItem) -> bool
         ensures { result ≡ same_item self.now other.now }
@@ -39,7 +37,6 @@ impl PartialEq for ThreadLog {
 }
 
 impl ThreadLog {
-
     /// Whether both did the same steps.
     pub fn same(&self, other: &ThreadLog) -> bool
         ensures { result ≡ same_thread self.now other.now }
@@ -49,7 +46,6 @@ impl ThreadLog {
 }
 
 impl Call {
-
     /// Whether both are the same call with the same answer.
     pub fn same(&self, other: &Call) -> bool
         ensures { result ≡ same_call self.now other.now }
@@ -72,7 +68,6 @@ impl PartialEq for CallRec {
 }
 
 impl CallRec {
-
     /// Whether both are the same call of the same step.
     pub fn same(&self, other: &CallRec) -> bool
         ensures { result ≡ same_rec self.now other.now }
@@ -82,7 +77,6 @@ impl CallRec {
 }
 
 impl Log {
-
     /// Whether both are the same log.
     pub fn same(&self, other: &Log) -> bool
         ensures { result ≡ same_log self.now other.now }

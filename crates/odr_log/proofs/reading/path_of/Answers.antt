@@ -7,12 +7,12 @@ pub returns-in_err-item : goal.returns-in_err-item
 returns-in_err-item c =
     let p = err_from_is_err_and c.from_residual.result c.from_residual.ensures.1 in
     rw (p.1, p.2) (ends item_at c.in_err-item.field-0.0 c.loop.path c.args.count c.loop.counter c.loop.rest.now
-        (list_at item_at c.args.count c.args.bytes.now) c.loop-test.true c.in_err-item.ensures c.loop.invariant)
+    (list_at item_at c.args.count c.args.bytes.now) c.loop-test.true c.in_err-item.ensures c.loop.invariant)
 
 pub loop-preserved : goal.loop-preserved
 loop-preserved c =
     rw c.in_ok-push.ensures (goes_on item_at c.loop.path c.args.count c.loop.counter c.loop.rest.now c.in_ok-item.item c.in_ok-item.after.now
-        (list_at item_at c.args.count c.args.bytes.now) c.loop-test.true c.in_ok-item.ensures c.loop.invariant)
+    (list_at item_at c.args.count c.args.bytes.now) c.loop-test.true c.in_ok-item.ensures c.loop.invariant)
 
 pub returns : goal.returns
 returns c = is_done item_at c.loop.path c.args.count c.loop.counter c.loop.rest.now (list_at item_at c.args.count c.args.bytes.now) c.loop-test.false c.loop.invariant
