@@ -1,7 +1,7 @@
 -- The readers of calls belong to their spelling.
-use Rattle.std.proofs.Common.{◌≡◌, ℕ, zero, suc, ◌+◌, ◌-◌, ◌^◌, ◌<◌, ◌≤◌, Bool, true, false, List, [], ◌∷◌, ◌++◌, length, Option, Some, None, Result, Ok, Err, refl, sym, ap, subst, ◌∙◌, arith, inl, inr}
+use Rattle.std.proofs.Common.{◌≡◌, ℕ, zero, suc, ◌-◌, ◌^◌, ◌<◌, ◌≤◌, Bool, true, false, List, [], ◌∷◌, ◌++◌, Option, Some, None, Result, Ok, refl, arith}
 use Rattle.std.specs.Prelude.{◌==◌, if◌then◌else◌, IfSome}
-use Rattle.std.specs.Int.{w16, w32, to_le_bytes}
+use Rattle.std.specs.Int.{w32, to_le_bytes}
 use Rattle.std.proofs.lemmas.Bool.{eqb-true, eqb-false, ne_eqb}
 use Rattle.std.proofs.lemmas.List.Elements.{All-nil}
 use Rattle.byteorder.specs.Endian.{little_bytes}
@@ -10,7 +10,7 @@ use Rattle.odr_log.specs.declared.log.Call.TheVariants as call
 use Rattle.odr_log.specs.declared.log.CallRec.{CallRec}
 use Rattle.odr_log.specs.Grammar.{text_bytes, flag_bytes, kind_of, child_of, fields_of, record_bytes, IsText, IsCall, IsRecord}
 use Rattle.odr_log.specs.Reading.{◌>>=◌, mapped, byte_at, number_at, flag_at, text_at, flagged_at, child_at, spawned_at, wanted_at, fields_at, record_at}
-use Rattle.odr_log.proofs.Readers.{IsReader, IsSplit, IsMade, then-reader, done-reader, made-reader, pair-reader}
+use Rattle.odr_log.proofs.Readers.{IsReader, then-reader, done-reader, made-reader, pair-reader}
 use Rattle.odr_log.proofs.Bytes.{IsBetween, one_byte, byte-reader}
 use Rattle.odr_log.proofs.Threads.{Any, word-reader, flag-reader, text-reader}
 

@@ -1,10 +1,10 @@
 -- Reading so many values belongs to spelling them one after the other.
-use Rattle.std.proofs.Common.{◌≡◌, ℕ, zero, suc, ◌+◌, Bool, true, false, List, [], ◌∷◌, ◌++◌, length, Result, Ok, Err, refl, sym, ap, ◌∙◌, arith}
+use Rattle.std.proofs.Common.{◌≡◌, ℕ, zero, suc, List, [], ◌∷◌, length, Result, Ok, refl, ap, ◌∙◌, arith}
 use Rattle.std.specs.Prelude.{replicate}
 use Rattle.std.specs.List.{flat_map, AllByRecursion}
-use Rattle.std.proofs.lemmas.List.{nil_from_length, length-replicate}
+use Rattle.std.proofs.lemmas.List.{nil_from_length}
 use Rattle.odr_log.specs.Reading.{◌>>=◌, list_at}
-use Rattle.odr_log.proofs.Readers.{IsReader, IsSplit, IsMade, then-reader, done-reader, made-reader}
+use Rattle.odr_log.proofs.Readers.{IsReader, then-reader, done-reader, made-reader}
 
 -- so many values that fit
 abbrev pub AreListed : {T : Type 0} → (T → Type 0) → ℕ → List T → Type 0

@@ -1,8 +1,8 @@
 -- The reader of a log belongs to its spelling.
-use Rattle.std.proofs.Common.{◌≡◌, ℕ, zero, suc, ◌+◌, ◌-◌, ◌^◌, ◌<◌, ◌≤◌, Bool, true, false, List, [], ◌∷◌, ◌++◌, length, All, Result, Ok, Err, refl, sym, ap, subst, ◌∙◌, append_assoc, arith}
-use Rattle.std.specs.Prelude.{◌==◌, if◌then◌else◌, replicate, codes}
+use Rattle.std.proofs.Common.{◌≡◌, ℕ, zero, suc, ◌-◌, ◌^◌, ◌<◌, ◌≤◌, List, [], ◌∷◌, ◌++◌, length, All, Result, Ok, Err, refl, ap, subst, ◌∙◌, append_assoc, arith}
+use Rattle.std.specs.Prelude.{replicate, codes}
 use Rattle.std.specs.Int.{w32, to_le_bytes}
-use Rattle.std.specs.List.{flat_map, AllByRecursion}
+use Rattle.std.specs.List.{flat_map}
 use Rattle.std.proofs.lemmas.List.{length-replicate}
 use Rattle.std.proofs.lemmas.List.Elements.{All-from_recursion, recursion_from_All, All-nil, All-replicate}
 use Rattle.byteorder.specs.Endian.{little_bytes}
@@ -15,8 +15,8 @@ use Rattle.odr_log.specs.declared.log.Call.TheVariants as call
 use Rattle.odr_log.specs.declared.log.CallRec.{CallRec}
 use Rattle.odr_log.specs.declared.log.Log.{Log}
 use Rattle.odr_log.specs.Grammar.{list_bytes, thread_bytes, record_bytes, cause_code, end_bytes, log_bytes, IsThread, IsRecord, IsEnd, IsInGrammar}
-use Rattle.odr_log.specs.Reading.{◌>>=◌, mapped, byte_at, number_at, list_at, thread_at, record_at, cause_of, cause_at, exited_at, faulted_at, end_fields_at, end_at, mark_at, body_at, log_at}
-use Rattle.odr_log.proofs.Readers.{IsReader, IsSplit, IsMade, then-reader, done-reader, made-reader, pair-reader, fits-reader, text-reader, same-reader}
+use Rattle.odr_log.specs.Reading.{◌>>=◌, byte_at, number_at, list_at, thread_at, record_at, cause_of, cause_at, exited_at, faulted_at, end_fields_at, end_at, mark_at, body_at, log_at}
+use Rattle.odr_log.proofs.Readers.{IsReader, then-reader, done-reader, made-reader, pair-reader, fits-reader, text-reader, same-reader}
 use Rattle.odr_log.proofs.Bytes.{IsBetween, one_byte, byte-reader}
 use Rattle.odr_log.proofs.Lists.{AreListed, list-reader}
 use Rattle.odr_log.proofs.Threads.{Any, word-reader, thread-reader}

@@ -1,6 +1,6 @@
 -- Readers that belong to a spelling: what is taken is spelled so, what is spelled so is taken, and where
 -- reading stops some spelling goes on with the bytes before the stop and none with one byte more.
-use Rattle.std.proofs.Common.{◌≡◌, ℕ, zero, suc, ◌+◌, ◌^◌, ◌<◌, ◌≤◌, Bool, true, false, cond, List, [], ◌∷◌, ◌++◌, length, get_or, take, drop, Result, Ok, Err, refl, sym, ap, subst, ◌∙◌, append_assoc, arith, inl, inr}
+use Rattle.std.proofs.Common.{◌≡◌, ℕ, ◌<◌, List, [], ◌∷◌, ◌++◌, length, get_or, Result, Ok, Err, refl, sym, ap, subst, ◌∙◌, append_assoc}
 use Rattle.odr_log.specs.Reading.{◌>>=◌, mapped, pair_at}
 use Rattle.odr_log.proofs.Fields.{bind_ok, ok_is}
 

@@ -1,10 +1,10 @@
 -- What the public readers answer, from what reading all bytes tells.
-use Rattle.std.proofs.Common.{◌≡◌, ℕ, ◌-◌, ◌<◌, ◌≤◌, List, [], length, Option, Some, None, Result, Ok, Err, refl, sym, ap, subst, ◌∙◌, arith, inl, inr}
+use Rattle.std.proofs.Common.{◌≡◌, ℕ, ◌-◌, ◌<◌, ◌≤◌, List, [], length, Result, Ok, Err, refl, sym, ap, subst, ◌∙◌, arith, inl, inr}
 use Rattle.odr_log.specs.declared.log.Log.{Log}
 use Rattle.odr_log.specs.Grammar.{log_bytes, steps_of, IsInGrammar, IsValid, IsLog}
 use Rattle.odr_log.specs.declared.fault.LogFault.{LogFault}
 use Rattle.odr_log.specs.declared.fault.LogFault.TheVariants as fault
-use Rattle.odr_log.specs.Faults.{UnlessMemory, FitsFile, IsTooLarge, FirstBad}
+use Rattle.odr_log.specs.Faults.{UnlessMemory, FitsFile, IsTooLarge, IsSomeLog, FirstBad}
 use Rattle.odr_log.specs.FirstForm.{IsFirstForm}
 use Rattle.std.specs.Prelude.{◌↔◌}
 use Rattle.std.proofs.lemmas.List.{append-nil}
@@ -51,6 +51,7 @@ same_offset p q e = cc
 pub record Answers (bytes : List ℕ) (result : Result Log LogFault) : Type 0 where
   pub ok : UnlessMemory result ((log : Log) → (result ≡ Ok log) ↔ (FitsFile bytes × IsLog bytes log))
   pub too_large : UnlessMemory result ((result ≡ Err fault.TooLarge) ↔ IsTooLarge bytes)
+  pub no_log : UnlessMemory result (((offset : ℕ) × (result ≡ Err (fault.Bad offset))) ↔ (FitsFile bytes × ¬ IsSomeLog bytes))
   pub bad : UnlessMemory result ((offset : ℕ) → (result ≡ Err (fault.Bad offset)) ↔ (FitsFile bytes × FirstBad bytes offset))
 
 -- a log that has the bytes has few steps or many
@@ -73,6 +74,7 @@ log-answers bytes log small fits read few =
         λ h. ap good (the_log bytes log other read h.1.0.grammar h.1.1),
       );
       too_large = (λ e. absurd cc, λ large. absurd (not_both bytes log small valid took.1 large));
+      no_log = (λ e. let is = e.1 in absurd cc, λ h. absurd (h.1 (log, took.0, took.1)));
       bad = λ offset. (λ e. absurd cc, λ h. absurd (first_bad-no_log bytes offset h.1 log took.0 took.1));
     }
 
@@ -83,6 +85,7 @@ many-answers bytes log small fits read many =
     record {
       ok = λ other. (λ e. absurd cc, λ h. absurd (not_both bytes other small h.1.0 h.1.1 large));
       too_large = (λ e. large, λ _. refl);
+      no_log = (λ e. let is = e.1 in absurd cc, λ h. absurd (h.1 (log, took.0, took.1)));
       bad = λ offset. (λ e. absurd cc, λ h. absurd (first_bad-no_log bytes offset h.1 log took.0 took.1));
     }
 
@@ -96,6 +99,7 @@ bad-answers bytes left small fits read =
     record {
       ok = λ other. (λ e. absurd cc, λ h. absurd (no_log bytes left other read h.1.0.grammar h.1.1));
       too_large = (λ e. absurd cc, λ large. absurd (stopped_large bytes left small read large));
+      no_log = (λ e. (small, λ some. no_log bytes left some.0 read some.1 some.2), λ h. (length bytes - left, refl));
       bad = λ offset. (
         λ e. (small, subst (FirstBad bytes) (same_offset (length bytes - left) offset e) stuck.1),
         λ h. ap bad (first_bad-one bytes (length bytes - left) offset stuck.1 h.1),

@@ -1,8 +1,8 @@
 -- The readers of flags, texts, path items and threads belong to their spellings.
-use Rattle.std.proofs.Common.{◌≡◌, ℕ, zero, suc, ◌^◌, ◌<◌, ◌≤◌, Bool, true, false, List, [], ◌∷◌, ◌++◌, length, Result, Ok, Err, All, refl, sym, ap, subst, ◌∙◌, arith, inl, inr}
+use Rattle.std.proofs.Common.{◌≡◌, ℕ, zero, suc, ◌^◌, ◌<◌, Bool, true, false, List, [], ◌++◌, length, Result, Ok, All, refl, arith, inl, inr}
 use Rattle.std.specs.Prelude.{◌==◌, if◌then◌else◌, replicate}
 use Rattle.std.specs.Int.{w16, w32, to_le_bytes}
-use Rattle.std.specs.List.{flat_map, AllByRecursion}
+use Rattle.std.specs.List.{flat_map}
 use Rattle.std.proofs.lemmas.List.Elements.{All-from_recursion, recursion_from_All, All-from_get_or, All-nil, All-replicate}
 use Rattle.std.proofs.lemmas.Bool.{cases_lt}
 use Rattle.std.proofs.lemmas.List.{get_or_past, length-replicate}
@@ -12,7 +12,7 @@ use Rattle.odr_log.specs.declared.log.PathItem.TheVariants as item
 use Rattle.odr_log.specs.declared.log.ThreadLog.{ThreadLog}
 use Rattle.odr_log.specs.Grammar.{list_bytes, text_bytes, flag_bytes, item_bytes, thread_bytes, IsItem, IsThread, IsText}
 use Rattle.odr_log.specs.Reading.{◌>>=◌, mapped, byte_at, number_at, bytes_at, flag_at, text_at, list_at, item_at, thread_at}
-use Rattle.odr_log.proofs.Readers.{IsBytes, IsReader, IsSplit, IsMade, then-reader, done-reader, made-reader, fits-reader}
+use Rattle.odr_log.proofs.Readers.{IsBytes, IsReader, then-reader, done-reader, made-reader, fits-reader}
 use Rattle.odr_log.proofs.Bytes.{IsBetween, one_byte, byte-reader, AreBytes, these, bytes-reader, number-reader, wide16, wide32}
 use Rattle.odr_log.proofs.Lists.{AreListed, list-reader}
 

@@ -1,13 +1,12 @@
 -- What reading all bytes tells: the log that has them, or where they stop to be one.
-use Rattle.std.proofs.Common.{◌≡◌, ◌≢◌, ℕ, zero, suc, ◌+◌, ◌-◌, ◌<◌, ◌≤◌, Bool, true, false, cond, eqb, List, [], ◌∷◌, ◌++◌, length, take, drop, All, Result, Ok, Err, refl, sym, ap, subst, ◌∙◌, append_assoc, arith, inl, inr}
-use Rattle.std.specs.Prelude.{◌⊎◌}
+use Rattle.std.proofs.Common.{◌≡◌, ◌≢◌, ℕ, ◌+◌, ◌-◌, ◌<◌, ◌≤◌, Bool, true, false, cond, eqb, List, [], ◌∷◌, ◌++◌, length, take, drop, All, Result, Ok, Err, refl, sym, ap, subst, ◌∙◌, append_assoc, arith, inl, inr}
 use Rattle.std.proofs.lemmas.Bool.{eqb-true, eqb-false, cases_order}
 use Rattle.std.proofs.lemmas.List.{append-nil, nil_from_length, length-append, take_at, take-append-le, take-append-drop}
 use Rattle.odr_log.specs.declared.log.Log.{Log}
 use Rattle.odr_log.specs.Grammar.{log_bytes, IsInGrammar}
-use Rattle.odr_log.specs.Faults.{IsSomeLog, BeginsLog, IsFirstWrong, IsCutOff, FirstBad}
+use Rattle.odr_log.specs.Faults.{IsSomeLog, BeginsLog, IsFirstWrong, FirstBad}
 use Rattle.odr_log.specs.Reading.{◌>>=◌, log_at, whole_at}
-use Rattle.odr_log.proofs.Fields.{bind_ok, ok_is}
+use Rattle.odr_log.proofs.Fields.{bind_ok}
 use Rattle.odr_log.proofs.Readers.{IsBytes, Stuck, one_text}
 use Rattle.odr_log.proofs.Threads.{below-from_All}
 use Rattle.odr_log.proofs.Logs.{log-reader}

@@ -43,9 +43,12 @@ fn has_first_form(log: &Log) -> bool
 
 /// The log of the first form that has these bytes, or none.
 pub fn read_first(alloc: Global, bytes: &[u8]) -> Result<Option<Log>, Memory>
-    ensures found { IfOk result (λ o. IfSome o (λ log. IsFirstForm log × (bytes.now ≡ log_bytes log))) }
-    ensures none { IfOk result (λ o. IfNone o ((log : Log) → IsFirstForm log → bytes.now ≡ log_bytes log → ⊥)) }
-    ensures only { IfOk result (λ o. (log : Log) → IsFirstForm log → bytes.now ≡ log_bytes log → o ≡ Some log) }
+    ensures found { IfOk result (λ o. IfSome o (λ log.
+        IsFirstForm log × (bytes.now ≡ log_bytes log))) }
+    ensures none { IfOk result (λ o. IfNone o ((log : Log) →
+        IsFirstForm log → bytes.now ≡ log_bytes log → ⊥)) }
+    ensures only { IfOk result (λ o. (log : Log) →
+        IsFirstForm log → bytes.now ≡ log_bytes log → o ≡ Some log) }
 {
     let log = match whole_of(alloc, bytes) {
         Ok(log) => log,

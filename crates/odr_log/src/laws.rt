@@ -7,12 +7,14 @@ ghost use Rattle.odr_log.specs.declared.log.Log.{Log};
 
 /// Each log has one spelling, and the bytes of a log are no proper prefix of another log's bytes.
 pub fn one_spelling()
-    ensures { (a b : Log) (rest : List ℕ) → IsInGrammar a → IsInGrammar b → log_bytes b ≡ log_bytes a ++ rest → (a ≡ b) × (rest ≡ []) }
+    ensures { (a b : Log) (rest : List ℕ) → IsInGrammar a → IsInGrammar b
+        → log_bytes b ≡ log_bytes a ++ rest → (a ≡ b) × (rest ≡ []) }
 {}
 
-/// Bytes that stop to be a log do so at one place, and are none.
+/// Bytes that are no log stop to be one at one place.
 pub fn one_first_bad()
     ensures one { (bytes : List ℕ) (p q : ℕ) → FirstBad bytes p → FirstBad bytes q → p ≡ q }
     ensures no_log { (bytes : List ℕ) (p : ℕ) → FirstBad bytes p → ¬ IsSomeLog bytes }
-    ensures some { (bytes : List ℕ) → All (λ byte. byte < 256) bytes → ¬ IsSomeLog bytes → (p : ℕ) × FirstBad bytes p }
+    ensures some { (bytes : List ℕ) → All (λ byte. byte < 256) bytes
+        → ¬ IsSomeLog bytes → (p : ℕ) × FirstBad bytes p }
 {}

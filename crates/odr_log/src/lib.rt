@@ -19,6 +19,7 @@ pub use fault::LogFault;
 pub use first_form::read_first;
 pub use laws::{one_first_bad, one_spelling};
 pub use limits::{MOST_BYTES, MOST_STEPS};
+pub use odr_list::memory::Memory;
 pub use read::read_log;
 pub use streams::{output, tape};
 pub use write::write_log;

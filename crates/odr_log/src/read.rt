@@ -1,6 +1,6 @@
 ghost use Rattle.std.specs.Prelude.{◌≡◌, ◌↔◌, ℕ, Ok, Err};
 ghost use Rattle.odr_log.specs.Grammar.{IsLog};
-ghost use Rattle.odr_log.specs.Faults.{UnlessMemory, FitsFile, IsTooLarge, FirstBad};
+ghost use Rattle.odr_log.specs.Faults.{UnlessMemory, FitsFile, IsTooLarge, IsSomeLog, FirstBad};
 ghost use Rattle.odr_log.specs.declared.log.Log.{Log};
 
 use crate::fault::LogFault;
@@ -10,11 +10,18 @@ use crate::reading::whole_of;
 use crate::stop::Stop;
 use std::alloc::Global;
 
-/// The valid log that has these bytes.
+/// The valid log that has these bytes. `Bad` tells at which offset they stop to be a log. `TooLarge` tells that
+/// there are more bytes than [`MOST_BYTES`], or that they are a log of more steps than [`MOST_STEPS`].
 pub fn read_log(alloc: Global, bytes: &[u8]) -> Result<Log, LogFault>
-    ensures ok { UnlessMemory result ((log : Log) → (result ≡ Ok log) ↔ (FitsFile bytes.now × IsLog bytes.now log)) }
-    ensures too_large { UnlessMemory result ((result ≡ Err LogFault.TooLarge) ↔ IsTooLarge bytes.now) }
-    ensures bad { UnlessMemory result ((offset : ℕ) → (result ≡ Err (LogFault.Bad offset)) ↔ (FitsFile bytes.now × FirstBad bytes.now offset)) }
+    ensures ok { UnlessMemory result ((log : Log) →
+        (result ≡ Ok log) ↔ (FitsFile bytes.now × IsLog bytes.now log)) }
+    ensures too_large { UnlessMemory result (
+        (result ≡ Err LogFault.TooLarge) ↔ IsTooLarge bytes.now) }
+    ensures no_log { UnlessMemory result (
+        ((offset : ℕ) × (result ≡ Err (LogFault.Bad offset)))
+        ↔ (FitsFile bytes.now × ¬ IsSomeLog bytes.now)) }
+    ensures bad { UnlessMemory result ((offset : ℕ) →
+        (result ≡ Err (LogFault.Bad offset)) ↔ (FitsFile bytes.now × FirstBad bytes.now offset)) }
 {
     if bytes.len() > MOST_BYTES {
         return Err(LogFault::TooLarge);

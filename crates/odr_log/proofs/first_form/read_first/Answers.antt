@@ -1,7 +1,5 @@
-use Rattle.std.proofs.Common.{◌≡◌, Err, ap, Some, arith}
+use Rattle.std.proofs.Common.{ap, Some, arith}
 use Rattle.std.proofs.lemmas.Bool.{iff_false}
-use Rattle.odr_log.specs.Reading.{whole_at}
-use Rattle.odr_log.proofs.Readers.{IsBytes}
 use Rattle.odr_log.proofs.Whole.{whole-takes}
 use Rattle.odr_log.proofs.Replies.{the_log, not_first, none_first}
 use Rattle.odr_log.proofs.first_form.read_first.Goals as goal

@@ -1,7 +1,6 @@
-use Rattle.std.proofs.Common.{◌≡◌, ◌<◌, ◌≤◌, ℕ, Err, length, arith}
-use Rattle.odr_log.specs.Grammar.{steps_of, IsInGrammar}
+use Rattle.std.proofs.Common.{◌<◌, ◌≤◌, arith}
+use Rattle.odr_log.specs.Grammar.{steps_of}
 use Rattle.odr_log.specs.Faults.{FitsFile}
-use Rattle.odr_log.specs.Reading.{whole_at}
 use Rattle.odr_log.proofs.Readers.{IsBytes}
 use Rattle.odr_log.proofs.Whole.{whole-takes, whole-stuck}
 use Rattle.odr_log.proofs.Replies.{log-answers, many-answers, bad-answers}
@@ -17,7 +16,7 @@ returns-in-Err-Bad c =
     let fits : IsBytes c.args.bytes.now = λ i. omega (arith, c.type_inv.bytes i) in
     let small : FitsFile c.args.bytes.now = omega arith in
     let a = bad-answers c.args.bytes.now c.in-Err-Bad.left small fits (rw c.in-Err-Bad.field-0-is at c.in-Err-Bad.ensures) in
-    record { ok = a.ok; too_large = a.too_large; bad = a.bad }
+    record { ok = a.ok; too_large = a.too_large; no_log = a.no_log; bad = a.bad }
 
 pub steps-requires : goal.steps-requires
 steps-requires c =
@@ -30,7 +29,7 @@ returns-then-steps-gt-MOST_STEPS c =
     let small : FitsFile c.args.bytes.now = omega arith in
     let many : 250000 < steps_of c.in-Ok.log = omega (arith, c.steps.ensures) in
     let a = many-answers c.args.bytes.now c.in-Ok.log small fits c.in-Ok.ensures many in
-    record { ok = a.ok; too_large = a.too_large; bad = a.bad }
+    record { ok = a.ok; too_large = a.too_large; no_log = a.no_log; bad = a.bad }
 
 pub returns : goal.returns
 returns c =
@@ -38,4 +37,4 @@ returns c =
     let small : FitsFile c.args.bytes.now = omega arith in
     let few : steps_of c.in-Ok.log ≤ 250000 = omega (arith, c.steps.ensures) in
     let a = log-answers c.args.bytes.now c.in-Ok.log small fits c.in-Ok.ensures few in
-    record { ok = a.ok; too_large = a.too_large; bad = a.bad }
+    record { ok = a.ok; too_large = a.too_large; no_log = a.no_log; bad = a.bad }
