@@ -257,3 +257,6 @@ own_log a =
 
 pub same_log-exact : (a b : Log) → (same_log a b ≡ true) ↔ (a ≡ b)
 same_log-exact = exact same_log equal_log own_log
+
+pub same_log-both_ways : IsPartialEquivalence same_log
+same_log-both_ways = both_ways same_log same_log-exact

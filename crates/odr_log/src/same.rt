@@ -1,6 +1,6 @@
 //! Tests whether two logs, or parts of them, are the same.
 
-ghost use Rattle.std.specs.Prelude.{◌≡◌};
+ghost use Rattle.std.specs.Prelude.{◌≡◌, ◌↔◌, IsTrue};
 ghost use Rattle.odr_log.specs.Same.{same_end, same_item, same_thread, same_call, same_rec, same_log};
 
 use crate::log::{Call, CallRec, End, Log, PathItem, ThreadLog};
@@ -8,7 +8,8 @@ use crate::log::{Call, CallRec, End, Log, PathItem, ThreadLog};
 impl End {
     /// Whether both are the same end.
     pub fn same(&self, other: &End) -> bool
-        ensures { result ≡ same_end self.now other.now }
+        ensures test { result ≡ same_end self.now other.now }
+        ensures exact { IsTrue result ↔ (self.now ≡ other.now) }
     {
         *self == *other
     }
@@ -17,7 +18,8 @@ impl End {
 impl PathItem {
     /// Whether both are the same item.
     pub fn same(&self, other: &PathItem) -> bool
-        ensures { result ≡ same_item self.now other.now }
+        ensures test { result ≡ same_item self.now other.now }
+        ensures exact { IsTrue result ↔ (self.now ≡ other.now) }
     {
         *self == *other
     }
@@ -39,7 +41,8 @@ impl PartialEq for ThreadLog {
 impl ThreadLog {
     /// Whether both did the same steps.
     pub fn same(&self, other: &ThreadLog) -> bool
-        ensures { result ≡ same_thread self.now other.now }
+        ensures test { result ≡ same_thread self.now other.now }
+        ensures exact { IsTrue result ↔ (self.now ≡ other.now) }
     {
         *self == *other
     }
@@ -48,7 +51,8 @@ impl ThreadLog {
 impl Call {
     /// Whether both are the same call with the same answer.
     pub fn same(&self, other: &Call) -> bool
-        ensures { result ≡ same_call self.now other.now }
+        ensures test { result ≡ same_call self.now other.now }
+        ensures exact { IsTrue result ↔ (self.now ≡ other.now) }
     {
         *self == *other
     }
@@ -70,21 +74,36 @@ impl PartialEq for CallRec {
 impl CallRec {
     /// Whether both are the same call of the same step.
     pub fn same(&self, other: &CallRec) -> bool
-        ensures { result ≡ same_rec self.now other.now }
+        ensures test { result ≡ same_rec self.now other.now }
+        ensures exact { IsTrue result ↔ (self.now ≡ other.now) }
     {
         *self == *other
+    }
+}
+
+impl PartialEq for Log {
+    ghost use Rattle.odr_log.specs.Same.{same_log};
+    ghost use Rattle.odr_log.specs.SameLaws.{same_log-both_ways};
+
+    ghost eq = { λ a b. same_log a b };
+
+    ghost laws = { same_log-both_ways };
+
+    fn eq(&self, other: &Log) -> bool {
+        if self.version != other.version || self.end != other.end {
+            return false;
+        }
+        self.threads.as_slice() == other.threads.as_slice()
+            && self.calls.as_slice() == other.calls.as_slice()
     }
 }
 
 impl Log {
     /// Whether both are the same log.
     pub fn same(&self, other: &Log) -> bool
-        ensures { result ≡ same_log self.now other.now }
+        ensures test { result ≡ same_log self.now other.now }
+        ensures exact { IsTrue result ↔ (self.now ≡ other.now) }
     {
-        if self.version != other.version || self.end != other.end {
-            return false;
-        }
-        self.threads.as_slice() == other.threads.as_slice()
-            && self.calls.as_slice() == other.calls.as_slice()
+        *self == *other
     }
 }
