@@ -1,5 +1,8 @@
 //! The log of a recorded run: each thread's branch outcomes and jump targets, the guest calls in the order
 //! of all threads, and the end. Who won a data race is not kept.
+//!
+//! A log has one spelling in bytes, which `specs/Grammar.antt` says part by part. [`read_log`] gives the log that
+//! bytes spell, or the place where they stop to be one, and [`write_log`] gives a log's bytes.
 #![tactic(auto)]
 
 mod fault;
