@@ -1,0 +1,5 @@
+pub mod Text
+pub mod Runs
+pub mod RunLaws
+pub mod LineLaws
+pub mod TextLaws
