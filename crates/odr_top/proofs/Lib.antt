@@ -1,0 +1,3 @@
+pub mod SimpleLemmas
+pub mod Stages
+pub mod MadeLines

@@ -1,0 +1,10 @@
+pub mod Words
+pub mod Simple
+pub mod Verdict
+pub mod Lines
+pub mod Answer
+pub mod Named
+pub mod Refused
+pub mod Saved
+pub mod Report
+pub mod Work
