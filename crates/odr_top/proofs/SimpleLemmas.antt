@@ -26,9 +26,9 @@ one_more image start count pc word before here low high f false e =
 pub grown : (image : Layout) (start count : ℕ) → SimpleFrom image start count
     → ((w : ℕ) → fetch_of image (start + count) ≡ Some w → is_simple (decode_of w) ≡ true) → SimpleFrom image start (count + 1)
 grown image start count before here = record {
-    each = λ (pc word : ℕ) (low : start ≤ pc) (high : pc < start + (count + 1)) (f : fetch_of image pc ≡ Some word).
-      one_more image start count pc word before here low high f (eqb pc (start + count)) refl
-  }
+  each = λ (pc word : ℕ) (low : start ≤ pc) (high : pc < start + (count + 1)) (f : fetch_of image pc ≡ Some word).
+      one_more image start count pc word before here low high f (eqb pc (start + count)) refl;
+}
 
 pub whole_region : (image : Layout) (region : Region) → SimpleFrom image region.start (length region.bytes) → SimpleIn image region
 whole_region image region from pc word covered f =
@@ -48,10 +48,10 @@ coded_in (Some region) pc byte e = (region, refl)
 
 pub all_regions : (image : Layout) → All (SimpleIn image) image.regions → IsSimple image
 all_regions image all = record {
-    each = λ (pc word : ℕ) (f : fetch_of image pc ≡ Some word).
+  each = λ (pc word : ℕ) (f : fetch_of image pc ≡ Some word).
       let first : (byte : ℕ) × (code_of image pc ≡ Some byte) =
-        fetched_in (code_of image pc) (code_of image (pc + 1)) (code_of image (pc + 2)) (code_of image (pc + 3)) (eqb (pc % 4) 0) word f in
+      fetched_in (code_of image pc) (code_of image (pc + 1)) (code_of image (pc + 2)) (code_of image (pc + 3)) (eqb (pc % 4) 0) word f in
       let at : (region : Region) × (region_at image.regions pc ≡ Some region) = coded_in (region_at image.regions pc) pc first.0 first.1 in
       let found : IsRegionAt (SimpleIn image) pc at.0 = region_at-Some (SimpleIn image) image.regions pc at.0 all at.1 in
-      found.is_one pc word found.covered f
-  }
+      found.is_one pc word found.covered f;
+}

@@ -3,7 +3,6 @@ use Rattle.std.specs.Prelude.{◌≡◌, ℕ, List, Option, Some, None, IfSome, 
 use Rattle.std.proofs.Common.{sym, subst, inl, inr}
 use Rattle.odr_io.specs.Outside.{Held, held_at}
 use Rattle.elf_image.specs.Layout.{Layout}
-
 use Rattle.odr_log.specs.declared.log.Log.{Log}
 use Rattle.odr_top.specs.declared.refusal.Refusal.{Refusal}
 use Rattle.odr_top.specs.Words.{Files}
@@ -15,8 +14,8 @@ owes_run : (held : Held) (files : Files) (image : Layout) (log : Log) → GivesI
     → (verdict : Verdict) → OwesRun image log verdict → Owes held (Some files) verdict
 owes_run held files image log program recording verdict owed =
     subst (λ (o : Option (List ℕ)). OwesElf held files o verdict) (sym program.found)
-      (subst (λ (o : Option Layout). OwesImage held files o verdict) (sym program.read)
-        (subst (λ (o : Option (List ℕ)). OwesLog image files.log o verdict) (sym recording.found) (inr (log, recording.read, owed))))
+    (subst (λ (o : Option Layout). OwesImage held files o verdict) (sym program.read)
+    (subst (λ (o : Option (List ℕ)). OwesLog image files.log o verdict) (sym recording.found) (inr (log, recording.read, owed))))
 
 pub told_run : (told later : Option Held) (files : Files) (image : Layout) (log : Log) → IfSome told (λ held. GivesImage held files.elf image)
     → later ≡ told → IfSome later (λ held. GivesLog held files.log log)
@@ -24,7 +23,7 @@ pub told_run : (told later : Option Held) (files : Files) (image : Layout) (log 
 told_run None later files image log program same recording verdict owed = tt
 told_run (Some held) later files image log program same recording verdict owed =
     owes_run held files image log program
-      (let P : Option Held → Type 0 = λ (o : Option Held). IfSome o (λ (h : Held). GivesLog h files.log log) in subst P same recording) verdict owed
+    (let P : Option Held → Type 0 = λ (o : Option Held). IfSome o (λ (h : Held). GivesLog h files.log log) in subst P same recording) verdict owed
 
 under : (P Q : Verdict → Type 0) (o : Option Verdict) → ((v : Verdict) → P v → Q v) → IfSome o P → IfSome o Q
 under P Q None f p = tt

@@ -16,5 +16,5 @@ is_name (first ∷ rest) = not (nat_eq first 45)
 abbrev pub job_of : List (List ℕ) → Option Files
 job_of (command ∷ elf ∷ log ∷ out ∷ []) =
     if bytes_eq command (codes "infer") && (is_name elf && (is_name log && is_name out))
-      then Some (record { elf = elf; log = log; out = out }) else None
+    then Some (record { elf = elf; log = log; out = out }) else None
 job_of other = None

@@ -18,10 +18,19 @@ fn is_simple(instr: Option<Instr>) -> bool
         Some(instr) => matches!(
             instr,
             Instr::Lui { .. }
-                | Instr::Imm { op: ImmOp::Addi, .. }
+                | Instr::Imm {
+                    op: ImmOp::Addi,
+                    ..
+                }
                 | Instr::Load { op: LoadOp::Lw, .. }
-                | Instr::Store { op: StoreOp::Sw, .. }
-                | Instr::Branch { op: BranchOp::Beq | BranchOp::Bne, .. }
+                | Instr::Store {
+                    op: StoreOp::Sw,
+                    ..
+                }
+                | Instr::Branch {
+                    op: BranchOp::Beq | BranchOp::Bne,
+                    ..
+                }
                 | Instr::Jal { .. }
                 | Instr::Ecall
         ),

@@ -25,7 +25,12 @@ pub fn read_job(words: &[String]) -> Option<Job<'_>>
     ensures { option_map files_of result ≡ job_of (map string_bytes words.now) }
 {
     match words {
-        [command, elf, log, out] => job_from(command.as_str(), elf.as_str(), log.as_str(), out.as_str()),
+        [command, elf, log, out] => job_from(
+            command.as_str(),
+            elf.as_str(),
+            log.as_str(),
+            out.as_str(),
+        ),
         _ => None,
     }
 }

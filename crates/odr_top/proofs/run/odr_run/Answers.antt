@@ -13,12 +13,13 @@ returns-in-Ok-clause-causes g c =
       status_is = refl;
       owed = c.in-Ok.ensures.printed.owed;
       out_is = c.in-Ok.ensures.printed.out_is;
-      err_is = sym (append_known-nothing (g.E.Sink.written c.args.err.now))
+      err_is = sym (append_known-nothing (g.E.Sink.written c.args.err.now));
     }
 
 pub returns-in-Err-clause-device : goal.returns-in-Err-clause-device
 returns-in-Err-clause-device g c =
     λ (e : c.report.result ≡ 6).
-      elim (c.report.ensures.device e) [
-        | inl is_device ↦ elim (c.in-Err.ensures.failed (ap Err is_device)) [ | inl store ↦ inl store | inr sink ↦ inr (inl sink) ]
-        | inr rose ↦ inr (inr rose) ]
+    elim (c.report.ensures.device e) [
+      | inl is_device ↦ elim (c.in-Err.ensures.failed (ap Err is_device)) [ inl store ↦ inl store | inr sink ↦ inr (inl sink) ]
+      | inr rose ↦ inr (inr rose)
+    ]

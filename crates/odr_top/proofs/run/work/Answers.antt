@@ -12,4 +12,4 @@ on_err (Err e) P p = p
 pub returns-in_err-schedule-clause-cut : goal.returns-in_err-schedule-clause-cut
 returns-in_err-schedule-clause-cut g c =
     on_err c.from_residual.result (PartOfRun (g.O.Sink.written c.args.out.now) (g.O.Sink.written c.args.out.now))
-      (record { steps = 0; out_is = AppendsPrefix-nothing (g.O.Sink.written c.args.out.now) (g.O.Sink.written c.args.out.now) (run_line 0) refl })
+    (record { steps = 0; out_is = AppendsPrefix-nothing (g.O.Sink.written c.args.out.now) (g.O.Sink.written c.args.out.now) (run_line 0) refl })

@@ -13,6 +13,6 @@ on_true false P Q f p = p
 pub returns-clause-simple : goal.returns-clause-simple
 returns-clause-simple c =
     on_true c.are_simple_in.result (All (SimpleIn c.args.image.now) c.regions.result.now) (IsSimple c.args.image.now)
-      (λ (all : All (SimpleIn c.args.image.now) c.regions.result.now).
-        all_regions c.args.image.now (subst (λ (rs : List Region). All (SimpleIn c.args.image.now) rs) c.regions.ensures all))
-      c.are_simple_in.ensures.simple
+    (λ (all : All (SimpleIn c.args.image.now) c.regions.result.now).
+    all_regions c.args.image.now (subst (λ (rs : List Region). All (SimpleIn c.args.image.now) rs) c.regions.ensures all))
+    c.are_simple_in.ensures.simple

@@ -13,4 +13,4 @@ pub returns-clause-simple : goal.returns-clause-simple
 returns-clause-simple c =
     let done : c.loop-offset.offset ≡ length c.args.region.now.bytes = omega arith in
     whole_region c.args.image.now c.args.region.now
-      (subst (λ (n : ℕ). SimpleFrom c.args.image.now c.args.region.now.start n) done c.loop-offset.invariant)
+    (subst (λ (n : ℕ). SimpleFrom c.args.image.now c.args.region.now.start n) done c.loop-offset.invariant)
