@@ -1,3 +1,4 @@
 pub mod SimpleLemmas
 pub mod Stages
 pub mod MadeLines
+pub mod OneVerdict

@@ -1,7 +1,7 @@
-ghost use Rattle.std.specs.Prelude.{◌≡◌, ◌≢◌, ◌⊎◌, None, Some, Option, map, string_bytes, OnOk, OnErr, IfErr, IfSome, IsErrOf};
+ghost use Rattle.std.specs.Prelude.{◌≡◌, ◌≢◌, ◌⊎◌, None, OnOk, OnErr, IfErr, IfSome, IsErrOf};
 ghost use Rattle.odr_io.specs.Outside.{Rose};
-ghost use Rattle.odr_top.specs.Words.{job_of};
-ghost use Rattle.odr_top.specs.Verdict.{Owes};
+ghost use Rattle.odr_top.specs.Words.{job_in};
+ghost use Rattle.odr_top.specs.Verdict.{Verdict, Owes};
 ghost use Rattle.odr_top.specs.Lines.{status_of};
 ghost use Rattle.odr_top.specs.Refused.{verdict_of};
 ghost use Rattle.odr_top.specs.Answer.{KeepsInputs, OutHoldsSchedule, Concluded, CutShort};
@@ -15,6 +15,7 @@ use crate::words::read_job;
 use odr_io::files::Files;
 use odr_io::sink::Sink;
 use odr_io::source::Source;
+use odr_log::one_spelling;
 use std::alloc::Global;
 
 /// Does the job that the words are.
@@ -25,22 +26,45 @@ fn work<'a, F: Files, O: Sink>(
     files: &mut F,
     out: &mut O,
 ) -> Result<(), Refusal<'a>>
-    ensures printed { OnOk result (RunPrinted (F.held files.old) (job_of (map string_bytes words.now)) (O.written out.old) (O.written out.new)) }
-    ensures saved { OnOk result (OutHoldsSchedule (F.held files.old) (F.held files.new) (job_of (map string_bytes words.now))) }
-    ensures refused { IfErr result (λ refusal. IfSome (verdict_of refusal) (λ verdict. IfSome (F.held files.old) (λ held. Owes held (job_of (map string_bytes words.now)) verdict))) }
+    ensures printed { OnOk result (RunPrinted (F.held files.old) (job_in words.now) (O.written out.old) (O.written out.new)) }
+    ensures saved { OnOk result (OutHoldsSchedule (F.held files.old) (F.held files.new) (job_in words.now)) }
+    ensures refused { IfErr result (λ refusal. IfSome (verdict_of refusal) (λ verdict. IfSome (F.held files.old) (λ held. Owes held (job_in words.now) verdict))) }
     ensures untouched { IfErr result (λ refusal. IfSome (verdict_of refusal) (λ _. (F.held files.new ≡ F.held files.old) × (O.written out.new ≡ O.written out.old))) }
-    ensures no_job { job_of (map string_bytes words.now) ≡ None → result ≡ Err Refusal.BadWords }
-    ensures bad_words { IsErrOf result Refusal.BadWords → job_of (map string_bytes words.now) ≡ None }
-    ensures others { KeepsInputs (F.held files.old) (F.held files.new) (job_of (map string_bytes words.now)) }
+    ensures no_job { job_in words.now ≡ None → result ≡ Err Refusal.BadWords }
+    ensures bad_words { IsErrOf result Refusal.BadWords → job_in words.now ≡ None }
+    ensures others { KeepsInputs (F.held files.old) (F.held files.new) (job_in words.now) }
     ensures cut { OnErr result (PartOfRun (O.written out.old) (O.written out.new)) }
     ensures failed { IsErrOf result Refusal.Device → Rose (F.faults files.old) (F.faults files.new) ⊎ Rose (O.faults out.old) (O.faults out.new) }
-    ensures whole { (Rose (F.faults files.old) (F.faults files.new) → ⊥) → (F.held files.new ≡ F.held files.old) ⊎ OutHoldsSchedule (F.held files.old) (F.held files.new) (job_of (map string_bytes words.now)) }
+    ensures whole { (Rose (F.faults files.old) (F.faults files.new) → ⊥) → (F.held files.new ≡ F.held files.old) ⊎ OutHoldsSchedule (F.held files.old) (F.held files.new) (job_in words.now) }
 {
     let Some(job) = read_job(words) else {
         return Err(Refusal::BadWords);
     };
     let schedule = infer(alloc, files, &job)?;
     save_schedule(alloc, files, out, job.out, &schedule)
+}
+
+/// The status of a call, with its lines printed.
+fn answer<F: Files, O: Sink, E: Sink>(
+    alloc: Global,
+    words: &[String],
+    files: &mut F,
+    out: &mut O,
+    err: &mut E,
+) -> u8
+    ensures inferred_run { result ≡ 0 → OutHoldsSchedule (F.held files.old) (F.held files.new) (job_in words.now) }
+    ensures causes { result ≢ 1 → result ≢ 6 → Concluded (F.held files.old) (job_in words.now) result (O.written out.old) (O.written out.new) (E.written err.old) (E.written err.new) }
+    ensures bad_words { (result ≡ 2 → job_in words.now ≡ None) × (job_in words.now ≡ None → (result ≡ 2) ⊎ IsCut result) }
+    ensures device { result ≡ 6 → Rose (F.faults files.old) (F.faults files.new) ⊎ (Rose (O.faults out.old) (O.faults out.new) ⊎ Rose (E.faults err.old) (E.faults err.new)) }
+    ensures cut_short { IsCut result → CutShort (O.written out.old) (O.written out.new) (E.written err.old) (E.written err.new) }
+    ensures inputs_kept { KeepsInputs (F.held files.old) (F.held files.new) (job_in words.now) }
+    ensures files_kept { result ≢ 0 → result ≢ 1 → result ≢ 6 → F.held files.new ≡ F.held files.old }
+    ensures whole_or_kept { (Rose (F.faults files.old) (F.faults files.new) → ⊥) → (F.held files.new ≡ F.held files.old) ⊎ OutHoldsSchedule (F.held files.old) (F.held files.new) (job_in words.now) }
+{
+    match work(alloc, words, files, out) {
+        Ok(()) => 0,
+        Err(refusal) => report(alloc, err, refusal),
+    }
 }
 
 /// Runs the program on the words of its command line, without the program's own name, and answers its exit
@@ -60,22 +84,23 @@ pub fn odr_run<F: Files, S: Source, O: Sink, E: Sink>(
     err: &mut E,
 ) -> u8
     // With status 0 the file holds a schedule whose run has exactly the log.
-    ensures inferred_run { result ≡ 0 → OutHoldsSchedule (F.held files.old) (F.held files.new) (job_of (map string_bytes words.now)) }
+    ensures inferred_run { result ≡ 0 → OutHoldsSchedule (F.held files.old) (F.held files.new) (job_in words.now) }
 
     // Every status but 1 and 6 is owed, and exactly its lines were printed.
-    ensures causes { result ≢ 1 → result ≢ 6 → Concluded (F.held files.old) (job_of (map string_bytes words.now)) result (O.written out.old) (O.written out.new) (E.written err.old) (E.written err.new) }
-    ensures bad_words { (result ≡ 2 → job_of (map string_bytes words.now) ≡ None) × (job_of (map string_bytes words.now) ≡ None → (result ≡ 2) ⊎ IsCut result) }
+    ensures causes { result ≢ 1 → result ≢ 6 → Concluded (F.held files.old) (job_in words.now) result (O.written out.old) (O.written out.new) (E.written err.old) (E.written err.new) }
+    // Where the store tells what it holds, the owed status comes, unless 1 or 6 does.
+    ensures complete { IfSome (F.held files.old) (λ held. (verdict : Verdict) → Owes held (job_in words.now) verdict → (result ≡ status_of verdict) ⊎ IsCut result) }
+    ensures bad_words { (result ≡ 2 → job_in words.now ≡ None) × (job_in words.now ≡ None → (result ≡ 2) ⊎ IsCut result) }
     ensures device { result ≡ 6 → Rose (F.faults files.old) (F.faults files.new) ⊎ (Rose (O.faults out.old) (O.faults out.new) ⊎ Rose (E.faults err.old) (E.faults err.new)) }
     ensures cut_short { IsCut result → CutShort (O.written out.old) (O.written out.new) (E.written err.old) (E.written err.new) }
 
     // Only the schedule's file may change, and only by a whole schedule unless the store failed.
-    ensures inputs_kept { KeepsInputs (F.held files.old) (F.held files.new) (job_of (map string_bytes words.now)) }
+    ensures inputs_kept { KeepsInputs (F.held files.old) (F.held files.new) (job_in words.now) }
     ensures files_kept { result ≢ 0 → result ≢ 1 → result ≢ 6 → F.held files.new ≡ F.held files.old }
-    ensures whole_or_kept { (Rose (F.faults files.old) (F.faults files.new) → ⊥) → (F.held files.new ≡ F.held files.old) ⊎ OutHoldsSchedule (F.held files.old) (F.held files.new) (job_of (map string_bytes words.now)) }
+    ensures whole_or_kept { (Rose (F.faults files.old) (F.faults files.new) → ⊥) → (F.held files.new ≡ F.held files.old) ⊎ OutHoldsSchedule (F.held files.old) (F.held files.new) (job_in words.now) }
     ensures commands_kept { commands.new ≡ commands.old }
 {
-    match work(alloc, words, files, out) {
-        Ok(()) => 0,
-        Err(refusal) => report(alloc, err, refusal),
-    }
+    let _ = commands;
+    one_spelling();
+    answer(alloc, words, files, out, err)
 }

@@ -1,5 +1,5 @@
-ghost use Rattle.std.specs.Prelude.{◌≡◌, List, map, string_bytes, option_map, [], ◌∷◌};
-ghost use Rattle.odr_top.specs.Words.{is_name, job_of};
+ghost use Rattle.std.specs.Prelude.{◌≡◌, option_map, [], ◌∷◌};
+ghost use Rattle.odr_top.specs.Words.{is_name, job_of, job_in};
 ghost use Rattle.odr_top.specs.Named.{files_of};
 
 /// An inference: the names of the program's file, the log's, and the one that the schedule goes into.
@@ -22,7 +22,7 @@ fn is_name(word: &str) -> bool
 
 /// The job that the words are, if they are one.
 pub fn read_job(words: &[String]) -> Option<Job<'_>>
-    ensures { option_map files_of result ≡ job_of (map string_bytes words.now) }
+    ensures { option_map files_of result ≡ job_in words.now }
 {
     match words {
         [command, elf, log, out] => job_from(
