@@ -6,7 +6,7 @@ use Rattle.std.proofs.lemmas.List.Elements.{recursion_from_All}
 use Rattle.std.specs.Fmt.{decimal}
 use Rattle.std.specs.List.{All, AllByRecursion, flat_map, prefix_len}
 use Rattle.sched_text.specs.declared.run.Run.{Run}
-use Rattle.sched_text.specs.Text.{step_before, runs_of, line_of, schedule_text}
+use Rattle.sched_text.specs.Text.{step_before, runs_of, line_of, schedule_text, IsTextOf}
 use Rattle.sched_text.specs.Runs.{steps_of}
 use Rattle.sched_text.specs.RunLaws.{run, lengthened, begun, runs_of-run, steps_of-runs_of}
 use Rattle.sched_text.specs.LineLaws.{FitsLine, line_parts, one_line}
@@ -147,3 +147,9 @@ one_text s t all_s all_t few_s few_t e =
     let on = goes_on (runs_of s) (runs_of t) [] (runs_fit s all_s few_s) (runs_fit t all_t few_t) (sym e ∙ sym (append-nil (schedule_text s))) in
     let same_runs : runs_of s ≡ runs_of t = sym (append-nil (runs_of s)) ∙ ap (λ (more : List Run). runs_of s ++ more) (sym (no_runs on.more (sym on.text))) ∙ sym on.joined in
     sym (steps_of-runs_of s) ∙ ap steps_of same_runs ∙ steps_of-runs_of t
+
+-- Bytes are the text of one schedule.
+pub one_schedule : (s t bytes : List ℕ) → IsTextOf s bytes → IsTextOf t bytes → s ≡ t
+one_schedule s t bytes is_s is_t =
+    one_text s t (λ i d h. let small = is_s.threads i d h in omega arith) (λ i d h. let small = is_t.threads i d h in omega arith)
+    (let few = is_s.few in omega arith) (let few = is_t.few in omega arith) (sym is_s.text ∙ is_t.text)

@@ -1,5 +1,6 @@
 ghost use Rattle.std.specs.Prelude.{◌≡◌, ℕ, ◌^◌, ◌<◌, List, [], All, length, replicate};
-ghost use Rattle.sched_text.specs.Text.{runs_of, line_of, schedule_text};
+ghost use Rattle.sched_text.specs.Text.{runs_of, line_of, schedule_text, IsTextOf};
+ghost use Rattle.sched_text.specs.FirstBad.{IsFirstBad};
 ghost use Rattle.sched_text.specs.Runs.{steps_of, AreMaximal};
 ghost use Rattle.sched_text.specs.declared.run.Run.{Run};
 
@@ -22,4 +23,15 @@ pub fn one_thread_one_line()
 pub fn one_text_one_schedule()
     ensures { (s t : List ℕ) → All (λ thread. thread < 2 ^ 64) s → All (λ thread. thread < 2 ^ 64) t →
         length s < 2 ^ 64 → length t < 2 ^ 64 → schedule_text s ≡ schedule_text t → s ≡ t }
+{}
+
+/// Bytes are the text of one schedule at most.
+pub fn one_schedule_of_a_text()
+    ensures { (s t bytes : List ℕ) → IsTextOf s bytes → IsTextOf t bytes → s ≡ t }
+{}
+
+/// Bytes that are the text of a schedule have no first bad line, and no bytes have two.
+pub fn one_first_bad_line()
+    ensures none { (s bytes : List ℕ) (line : ℕ) → IsTextOf s bytes → IsFirstBad bytes line → ⊥ }
+    ensures one { (bytes : List ℕ) (m n : ℕ) → IsFirstBad bytes m → IsFirstBad bytes n → m ≡ n }
 {}

@@ -2,7 +2,13 @@
 //! text has a line for each run of one thread.
 #![tactic(auto)]
 
+pub mod fault;
 pub mod laws;
+mod line;
+mod number;
+pub mod read;
 pub mod run;
 pub mod schedule;
+#[cfg(test)]
+mod tests;
 pub mod write;

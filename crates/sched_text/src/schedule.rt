@@ -1,5 +1,7 @@
-ghost use Rattle.std.specs.Prelude.{◌≡◌, ◌↔◌, [], ◌∷◌, ◌++◌, length, slice_get, IsTrue, is_ok, if◌then◌else◌};
+ghost use Rattle.std.specs.Prelude.{◌≡◌, ◌+◌, ◌^◌, ◌<◌, ◌↔◌, [], ◌∷◌, ◌++◌, length, slice_get, IsTrue, is_ok, if◌then◌else◌};
+ghost use Rattle.sched_text.specs.Runs.{steps_of_run};
 
+use crate::run::Run;
 use odr_list::memory::Memory;
 use std::alloc::Global;
 use std::marker::Model;
@@ -40,6 +42,16 @@ impl Schedule {
         ensures { self.new ≡ (if is_ok result then self.old ++ thread ∷ [] else self.old) }
     {
         self.steps.push(thread)?;
+        Ok(())
+    }
+
+    /// Appends the steps of a run; want of memory leaves the schedule as it was.
+    pub(crate) fn append(&mut self, run: Run) -> Result<(), Memory>
+        requires { length self.old + run.count < 2 ^ 63 }
+        ensures { self.new ≡ (if is_ok result then self.old ++ steps_of_run run else self.old) }
+    {
+        let length = self.steps.len() + run.count as usize;
+        self.steps.resize(length, run.thread)?;
         Ok(())
     }
 
