@@ -12,9 +12,10 @@ const MOST_STEPS: usize = 1_000_000;
 
 /// The schedule of which the bytes are the text.
 ///
-/// Each line is a thread (0 to 255), a space and a count (1 to 1,000,000), decimal without sign or leading
-/// zero, and ends with a line feed. Neighbouring lines have different threads, and the counts together are at
-/// most 1,000,000. `Bad` has the first line outside of this, counted from 1.
+/// A line names a thread, from 0 to 255, and after one space how many steps it takes in a row, at least 1;
+/// both numbers are decimal, without sign or leading zero, and a line feed ends the line. Two lines in a row
+/// never name one thread, and there are no more than 1,000,000 steps. `Bad` comes where some line breaks
+/// this, with the first such line, or the one with which the steps become too many; lines count from 1.
 pub fn read_schedule(alloc: Global, bytes: &[u8]) -> Result<Schedule, SchedFault>
     ensures schedule { IfOk result (λ schedule. IsTextOf schedule bytes.now) }
     ensures first_bad { IfErr result (IsCause bytes.now) }
