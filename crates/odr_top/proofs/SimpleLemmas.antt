@@ -1,9 +1,9 @@
 -- Addresses that hold only the instructions that an inference accepts, one address more at a time.
-use Rattle.std.specs.Prelude.{◌≡◌, ◌≢◌, ℕ, ◌+◌, ◌-◌, ◌%◌, ◌<◌, ◌≤◌, Bool, true, false, List, length, Option, Some, None, All, cond, refl}
-use Rattle.std.proofs.Common.{sym, ◌∙◌, ap, subst, arith, eqb, eq-eqb, ltb, leb}
+use Rattle.std.specs.Prelude.{◌≡◌, ◌≢◌, ℕ, ◌+◌, ◌%◌, ◌<◌, ◌≤◌, Bool, true, false, length, Option, Some, None, All, cond, refl}
+use Rattle.std.proofs.Common.{sym, ◌∙◌, ap, arith, eqb, eq-eqb, ltb, leb}
 use Rattle.std.proofs.lemmas.Bool.{eqb-true, false≢true, and_parts, leb-true, ltb-true}
 use Rattle.elf_image.specs.declared.region.Region.{Region}
-use Rattle.elf_image.specs.Layout.{Layout, covers, region_at, code_byte, code_of, little_endian, fetch_of}
+use Rattle.elf_image.specs.Layout.{Layout, region_at, code_byte, code_of, little_endian, fetch_of}
 use Rattle.elf_image.specs.ImageLaws.{IsRegionAt, region_at-Some}
 use Rattle.rv32_decode.specs.Table.{decode_of}
 use Rattle.odr_top.specs.Simple.{is_simple, IsSimple, SimpleIn}

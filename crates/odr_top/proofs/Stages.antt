@@ -1,12 +1,12 @@
 -- What the loads give decides what is owed.
 use Rattle.std.specs.Prelude.{◌≡◌, ℕ, List, Option, Some, None, IfSome, IfErr, Result, Ok, Err}
-use Rattle.std.proofs.Common.{sym, subst, inl, inr}
-use Rattle.odr_io.specs.Outside.{Held, held_at}
+use Rattle.std.proofs.Common.{sym, subst, inr}
+use Rattle.odr_io.specs.Outside.{Held}
 use Rattle.elf_image.specs.Layout.{Layout}
 use Rattle.odr_log.specs.declared.log.Log.{Log}
 use Rattle.odr_top.specs.declared.refusal.Refusal.{Refusal}
 use Rattle.odr_top.specs.Words.{Files}
-use Rattle.odr_top.specs.Verdict.{Verdict, image_within, OwesRun, OwesLog, OwesImage, OwesElf, Owes}
+use Rattle.odr_top.specs.Verdict.{Verdict, OwesRun, OwesLog, OwesImage, OwesElf, Owes}
 use Rattle.odr_top.specs.Refused.{verdict_of, GivesImage, GivesLog}
 
 -- an image and a log that are held owe what they owe

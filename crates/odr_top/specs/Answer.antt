@@ -1,7 +1,7 @@
 -- What a call of the program promises, from the words, the outside before it and the outside after it.
-use Rattle.std.specs.Prelude.{◌≡◌, ◌⊎◌, ℕ, List, length, take, Option, Some, None, IfSome}
+use Rattle.std.specs.Prelude.{◌≡◌, ◌⊎◌, ℕ, List, length, Option, Some, None, IfSome}
 use Rattle.std.specs.Io.KnownBytes.{append_known}
-use Rattle.odr_io.specs.Outside.{Held, held_at, Holds, KeepsOthers, Rose}
+use Rattle.odr_io.specs.Outside.{Held, held_at, Holds, KeepsOthers}
 use Rattle.odr_io.specs.Written.{AppendsPrefix}
 use Rattle.elf_image.specs.Layout.{Layout}
 use Rattle.elf_image.specs.Checks.{IsImage}
@@ -10,7 +10,7 @@ use Rattle.odr_log.specs.Grammar.{IsLog}
 use Rattle.sched_text.specs.Text.{schedule_text}
 use Rattle.rv_model.specs.Run.{HasLog}
 use Rattle.odr_top.specs.Words.{Files}
-use Rattle.odr_top.specs.Verdict.{Verdict, Owes}
+use Rattle.odr_top.specs.Verdict.{Verdict, NoFile, Explained, Owes}
 use Rattle.odr_top.specs.Lines.{status_of, run_line, out_text, err_text, memory_line, device_line}
 
 -- The store held an image and a log, and a schedule that has the log.
@@ -33,27 +33,54 @@ abbrev pub OutHoldsSchedule : Option Held → Option Held → Option Files → T
 OutHoldsSchedule before after None = ⊥
 OutHoldsSchedule before after (Some files) = (schedule : List ℕ) × HoldsSchedule before after files schedule
 
+-- A schedule was found: the file holds its text, its line was printed, and no other is owed.
+pub record FoundRun (before after : Option Held) (files : Files) (out_before out_after : Option (List ℕ)) : Type 0 where
+  pub schedule : List ℕ
+  pub held : HoldsSchedule before after files schedule
+  pub owed : IfSome before (λ h. Owes h (Some files) (Explained schedule))
+  pub printed : out_after ≡ append_known out_before (run_line (length schedule))
+
+abbrev pub InferredRun : Option Held → Option Held → Option Files → Option (List ℕ) → Option (List ℕ) → Type 0
+InferredRun before after None out_before out_after = ⊥
+InferredRun before after (Some files) out_before out_after = FoundRun before after files out_before out_after
+
+-- some schedule is owed
+abbrev pub OwesSchedule : Option Held → Option Files → Type 0
+OwesSchedule held files = (schedule : List ℕ) × IfSome held (λ h. Owes h files (Explained schedule))
+
 -- All names but that of the schedule hold what they held.
 abbrev pub KeepsInputs : Option Held → Option Held → Option Files → Type 0
 KeepsInputs before after None = after ≡ before
 KeepsInputs before after (Some files) = KeepsOthers before after files.out
+
+-- a file that is missing is one that is loaded
+abbrev pub IsNamed : Option Files → Verdict → Type 0
+IsNamed (Some files) (NoFile name) = (name ≡ files.elf) ⊎ (name ≡ files.log)
+IsNamed None (NoFile name) = ⊥
+IsNamed files other = Unit {0}
 
 -- A call that came to an end owed its verdict, and printed that verdict's lines and no others.
 pub record Concluded (held : Option Held) (files : Option Files) (status : ℕ) (out_before out_after err_before err_after : Option (List ℕ)) : Type 0 where
   pub verdict : Verdict
   pub status_is : status ≡ status_of verdict
   pub owed : IfSome held (λ h. Owes h files verdict)
+  pub named : IsNamed files verdict
   pub out_is : out_after ≡ append_known out_before (out_text verdict)
   pub err_is : err_after ≡ append_known err_before (err_text verdict)
 
--- one of the lines that may go to err
-abbrev pub IsErrLine : List ℕ → Type 0
-IsErrLine text = (text ≡ memory_line) ⊎ ((text ≡ device_line) ⊎ ((verdict : Verdict) × (text ≡ err_text verdict)))
+-- a line that may go to err: want of memory, a fault, or what is owed
+abbrev pub IsErrLine : Option Held → Option Files → List ℕ → Type 0
+IsErrLine held files text = (text ≡ memory_line) ⊎ ((text ≡ device_line) ⊎ ((verdict : Verdict) × (text ≡ err_text verdict) × IfSome held (λ h. Owes h files verdict)))
 
--- A call that was cut short printed a front of the run's line, and a front of one line.
-pub record CutShort (out_before out_after err_before err_after : Option (List ℕ)) : Type 0 where
-  pub steps : ℕ
-  pub out_is : AppendsPrefix out_before out_after (run_line steps)
+-- a front of the run's line of a schedule that is owed
+pub record PartOfRun (held : Option Held) (files : Option Files) (before after : Option (List ℕ)) : Type 0 where
+  pub schedule : List ℕ
+  pub owed : IfSome held (λ h. Owes h files (Explained schedule))
+  pub out_is : AppendsPrefix before after (run_line (length schedule))
+
+-- A call that was cut short printed nothing to out or a front of the line that is owed, and a front of one line to err.
+pub record CutShort (held : Option Held) (files : Option Files) (out_before out_after err_before err_after : Option (List ℕ)) : Type 0 where
+  pub out_is : (out_after ≡ out_before) ⊎ PartOfRun held files out_before out_after
   pub line : List ℕ
-  pub is_line : IsErrLine line
+  pub is_line : IsErrLine held files line
   pub err_is : AppendsPrefix err_before err_after line

@@ -7,4 +7,3 @@ pub mod Named
 pub mod Refused
 pub mod Saved
 pub mod Report
-pub mod Work

@@ -1,5 +1,5 @@
 -- Refusals by their verdicts.
-use Rattle.std.specs.Prelude.{◌≡◌, ◌⊎◌, ℕ, List, length, Option, Some, None, IfSome}
+use Rattle.std.specs.Prelude.{◌≡◌, ◌⊎◌, ℕ, List, Option, Some, None}
 use Rattle.odr_io.specs.Outside.{Held, held_at}
 use Rattle.elf_image.specs.Layout.{Layout}
 use Rattle.odr_log.specs.declared.log.Log.{Log}
@@ -46,3 +46,13 @@ Turned GivesNone held name refusal.NotBuilt = GivesNone held name
 Turned GivesNone held name (refusal.Differs place) = ⊥
 Turned GivesNone held name refusal.Device = Unit {0}
 Turned GivesNone held name refusal.Memory = Unit {0}
+
+-- a refusal for want of a file names this file
+abbrev pub NamesOnly : List ℕ → Refusal → Type 0
+NamesOnly name (refusal.NoFile absent) = absent.now ≡ name
+NamesOnly name other = Unit {0}
+
+-- a refusal for want of a file names one that is loaded
+abbrev pub NamesLoaded : Files → Refusal → Type 0
+NamesLoaded files (refusal.NoFile absent) = (absent.now ≡ files.elf) ⊎ (absent.now ≡ files.log)
+NamesLoaded files other = Unit {0}

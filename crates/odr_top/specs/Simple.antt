@@ -1,5 +1,5 @@
 -- The instructions that an inference accepts.
-use Rattle.std.specs.Prelude.{◌≡◌, ℕ, Bool, true, false, Option, Some, None}
+use Rattle.std.specs.Prelude.{◌≡◌, ℕ, Bool, true, false, Option, Some}
 use Rattle.elf_image.specs.Layout.{Layout, covers, fetch_of}
 use Rattle.elf_image.specs.declared.region.Region.{Region}
 use Rattle.rv32_decode.specs.Table.{decode_of}

@@ -1,5 +1,5 @@
 -- What an inference owes for the files that a store holds: with memory enough and no fault it answers so.
-use Rattle.std.specs.Prelude.{◌≡◌, ◌⊎◌, ℕ, ◌≤◌, Bool, List, length, nat_le, replicate, Option, Some, None, if◌then◌else◌}
+use Rattle.std.specs.Prelude.{◌≡◌, ◌⊎◌, ℕ, ◌≤◌, List, length, nat_le, replicate, Option, Some, None, if◌then◌else◌}
 use Rattle.odr_io.specs.Outside.{Held, held_at}
 use Rattle.elf_image.specs.Layout.{Layout}
 use Rattle.elf_image.specs.Plain.{plain_image}

@@ -1,5 +1,5 @@
 -- Which words are a job. The first word is the command, the others name files.
-use Rattle.std.specs.Prelude.{ℕ, Bool, true, false, ◌&&◌, not, nat_eq, List, [], ◌∷◌, codes, bytes_eq, map, string_bytes, String, Option, Some, None, if◌then◌else◌}
+use Rattle.std.specs.Prelude.{ℕ, Bool, false, ◌&&◌, not, nat_eq, List, [], ◌∷◌, codes, bytes_eq, map, string_bytes, String, Option, Some, None, if◌then◌else◌}
 use Rattle.std.specs.declared.alloc.Global.{Global}
 
 -- an inference: the program's file, the log's, and the one that the schedule goes into

@@ -3,7 +3,8 @@ ghost use Rattle.odr_io.specs.Outside.{Rose};
 ghost use Rattle.odr_log.specs.FirstForm.{IsFirstForm};
 ghost use Rattle.rv_model.specs.Run.{HasLog, first_diff};
 ghost use Rattle.odr_top.specs.Verdict.{Explained, only_schedule, by_difference, OwesRun, Owes};
-ghost use Rattle.odr_top.specs.Refused.{verdict_of};
+ghost use Rattle.odr_top.specs.Words.{Files};
+ghost use Rattle.odr_top.specs.Refused.{verdict_of, NamesLoaded};
 ghost use Rattle.odr_top.specs.Answer.{IsExplained};
 ghost use Rattle.odr_top.specs.Named.{files_of};
 
@@ -41,6 +42,7 @@ fn explain<'a>(alloc: Global, image: &Image, log: &Log) -> Result<Schedule, Refu
     ensures short { IfOk result (λ schedule. length schedule ≤ 250000) }
     ensures no_fault { result ≢ Err Refusal.Device }
     ensures a_job { result ≢ Err Refusal.BadWords }
+    ensures named { IfErr result (λ refusal. (files : Files) → NamesLoaded files refusal) }
 {
     if !has_only_simple(image) {
         return Err(Refusal::NotBuilt);
@@ -69,6 +71,7 @@ pub fn infer<'a, F: Files>(
     ensures failed { IsErrOf result Refusal.Device → Rose (F.faults files.old) (F.faults files.new) }
     ensures steady { result ≢ Err Refusal.Device → F.faults files.new ≡ F.faults files.old }
     ensures a_job { result ≢ Err Refusal.BadWords }
+    ensures named { IfErr result (NamesLoaded (files_of job.now)) }
 {
     let image = load_image(alloc, files, job.elf)?;
     let log = load_log(alloc, files, job.log)?;

@@ -2,7 +2,7 @@ ghost use Rattle.std.specs.Prelude.{◌≡◌, ◌≢◌, ◌≤◌, IfOk, IfErr
 ghost use Rattle.odr_io.specs.Outside.{Rose};
 ghost use Rattle.odr_log.specs.FirstForm.{IsFirstForm};
 ghost use Rattle.odr_top.specs.Saved.{load_refusal};
-ghost use Rattle.odr_top.specs.Refused.{GivesImage, GivesNoImage, GivesLog, GivesNoLog, Turned};
+ghost use Rattle.odr_top.specs.Refused.{GivesImage, GivesNoImage, GivesLog, GivesNoLog, Turned, NamesOnly};
 
 use crate::refusal::Refusal;
 use elf_image::image::Image;
@@ -42,6 +42,7 @@ pub fn load_image<'a, F: Files>(
     ensures failed { IsErrOf result Refusal.Device → Rose (F.faults files.old) (F.faults files.new) }
     ensures steady { result ≢ Err Refusal.Device → F.faults files.new ≡ F.faults files.old }
     ensures a_job { result ≢ Err Refusal.BadWords }
+    ensures named { IfErr result (NamesOnly name.now) }
 {
     let mut bytes = Vec::new(alloc);
     if let Err(fail) = files.load(alloc, name, ELF_LIMIT, &mut bytes) {
@@ -67,6 +68,7 @@ pub fn load_log<'a, F: Files>(
     ensures failed { IsErrOf result Refusal.Device → Rose (F.faults files.old) (F.faults files.new) }
     ensures steady { result ≢ Err Refusal.Device → F.faults files.new ≡ F.faults files.old }
     ensures a_job { result ≢ Err Refusal.BadWords }
+    ensures named { IfErr result (NamesOnly name.now) }
 {
     let mut bytes = Vec::new(alloc);
     if let Err(fail) = files.load(alloc, name, LOG_LIMIT, &mut bytes) {

@@ -1,4 +1,4 @@
-ghost use Rattle.std.specs.Prelude.{◌≡◌, ◌≢◌, ◌⊎◌, ◌≤◌, ◌∷◌, [], ◌++◌, decimal, codes, string_bytes, length, List, ℕ, OnOk, OnErr, IfOk, IfErr, IsErrOf, IsOkAnd, MatchResult};
+ghost use Rattle.std.specs.Prelude.{◌≡◌, ◌≢◌, ◌⊎◌, ◌≤◌, ◌∷◌, [], ◌++◌, decimal, codes, string_bytes, length, List, ℕ, OnOk, OnErr, IfOk, IfErr, IsErrOf, IsOkAnd, MatchResult, is_some};
 ghost use Rattle.std.specs.Io.KnownBytes.{append_known};
 ghost use Rattle.odr_io.specs.Outside.{Holds, KeepsOthers, Rose};
 ghost use Rattle.odr_io.specs.Written.{AppendsPrefix};
@@ -38,6 +38,9 @@ pub fn save_schedule<'a, F: Files, O: Sink>(
     ensures cut { OnErr result (AppendsPrefix (O.written out.old) (O.written out.new) (run_line (length schedule.now))) }
     ensures outside { IfErr result IsOutside }
     ensures failed { IsErrOf result Refusal.Device → Rose (F.faults files.old) (F.faults files.new) ⊎ Rose (O.faults out.old) (O.faults out.new) }
+    ensures steady { result ≢ Err Refusal.Device → (F.faults files.new ≡ F.faults files.old) × (O.faults out.new ≡ O.faults out.old) }
+    ensures saved_first { (out.new ≡ out.old) ⊎ Holds (F.held files.new) name.now (schedule_text schedule.now) }
+    ensures told { is_some (F.held files.new) ≡ is_some (F.held files.old) }
     ensures whole { (Rose (F.faults files.old) (F.faults files.new) → ⊥) → (F.held files.new ≡ F.held files.old) ⊎ Holds (F.held files.new) name.now (schedule_text schedule.now) }
 {
     let text = write_schedule(alloc, schedule)?;
@@ -51,7 +54,8 @@ pub fn save_schedule<'a, F: Files, O: Sink>(
 fn tell<E: Sink>(err: &mut E, line: &str, status: u8) -> u8
     ensures told { result ≢ 1 → result ≢ 6 → (result ≡ status) × (E.written err.new ≡ append_known (E.written err.old) line.now) }
     ensures cut { IsCut result → AppendsPrefix (E.written err.old) (E.written err.new) line.now }
-    ensures device { result ≡ 6 → (status ≡ 6) ⊎ Rose (E.faults err.old) (E.faults err.new) }
+    ensures device { result ≡ 6 → ((status ≡ 6) × (E.written err.new ≡ append_known (E.written err.old) line.now)) ⊎ Rose (E.faults err.old) (E.faults err.new) }
+    ensures steady { result ≢ 6 → E.faults err.new ≡ E.faults err.old }
 {
     match write_all(err, line.as_bytes()) {
         Ok(()) => status,
@@ -79,6 +83,7 @@ fn tell_made<E: Sink>(err: &mut E, line: Result<String, Memory>, status: u8) -> 
     ensures told { result ≢ 1 → result ≢ 6 → IsOkAnd line (λ made. (result ≡ status) × (E.written err.new ≡ append_known (E.written err.old) (string_bytes made))) }
     ensures cut { IsCut result → MatchResult line (λ made. AppendsPrefix (E.written err.old) (E.written err.new) (string_bytes made)) (λ _. AppendsPrefix (E.written err.old) (E.written err.new) memory_line) }
     ensures device { result ≡ 6 → Rose (E.faults err.old) (E.faults err.new) }
+    ensures steady { result ≢ 6 → E.faults err.new ≡ E.faults err.old }
 {
     match line {
         Ok(line) => tell(err, line.as_str(), status),
@@ -90,8 +95,9 @@ fn tell_made<E: Sink>(err: &mut E, line: Result<String, Memory>, status: u8) -> 
 /// where memory did not suffice for it.
 pub fn report<E: Sink>(alloc: Global, err: &mut E, refusal: Refusal<'_>) -> u8
     ensures told { result ≢ 1 → result ≢ 6 → Reported refusal.entry result (E.written err.old) (E.written err.new) }
-    ensures cut { IsCut result → PartOfLine (E.written err.old) (E.written err.new) }
-    ensures device { result ≡ 6 → (refusal.entry ≡ Refusal.Device) ⊎ Rose (E.faults err.old) (E.faults err.new) }
+    ensures cut { IsCut result → PartOfLine refusal.entry (E.written err.old) (E.written err.new) }
+    ensures device { result ≡ 6 → ((refusal.entry ≡ Refusal.Device) × (E.written err.new ≡ append_known (E.written err.old) device_line)) ⊎ Rose (E.faults err.old) (E.faults err.new) }
+    ensures steady { result ≢ 6 → E.faults err.new ≡ E.faults err.old }
 {
     match refusal {
         Refusal::BadWords => tell(err, "odr: bad words\n", 2),

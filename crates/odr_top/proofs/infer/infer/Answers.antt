@@ -1,4 +1,4 @@
-use Rattle.std.proofs.Common.{Some, Option}
+use Rattle.std.proofs.Common.{Some}
 use Rattle.std.specs.Option.{IfSome}
 use Rattle.odr_io.specs.Outside.{Held}
 use Rattle.odr_top.specs.Named.{files_of}

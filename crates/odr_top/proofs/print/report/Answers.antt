@@ -1,4 +1,4 @@
-use Rattle.std.proofs.Common.{◌≡◌, ◌≢◌, string_bytes, Some, ap}
+use Rattle.std.proofs.Common.{◌≢◌, string_bytes, ap}
 use Rattle.odr_top.specs.Refused.{verdict_of}
 use Rattle.odr_top.specs.Verdict.{NoFile, Differs}
 use Rattle.odr_top.specs.Report.{IsCut}
@@ -14,8 +14,8 @@ returns-in-NoFile-clause-told g c =
 pub returns-in-NoFile-clause-cut : goal.returns-in-NoFile-clause-cut
 returns-in-NoFile-clause-cut g c =
     λ (cut : IsCut c.tell_made.result).
-    made_cut string_bytes (NoFile c.in-NoFile.name.now) (g.E.Sink.written c.args.err.now) (g.E.Sink.written c.tell_made.new.err)
-    c.named_line.result c.named_line.ensures (c.tell_made.ensures.cut cut)
+    made_cut string_bytes c.args.refusal (NoFile c.in-NoFile.name.now) (g.E.Sink.written c.args.err.now) (g.E.Sink.written c.tell_made.new.err)
+    c.named_line.result (ap verdict_of c.in-NoFile.is) c.named_line.ensures (c.tell_made.ensures.cut cut)
 
 pub returns-in-Differs-clause-told : goal.returns-in-Differs-clause-told
 returns-in-Differs-clause-told g c =
@@ -26,5 +26,5 @@ returns-in-Differs-clause-told g c =
 pub returns-in-Differs-clause-cut : goal.returns-in-Differs-clause-cut
 returns-in-Differs-clause-cut g c =
     λ (cut : IsCut c.tell_made-in-Differs.result).
-    made_cut string_bytes (Differs c.in-Differs.place) (g.E.Sink.written c.args.err.now) (g.E.Sink.written c.tell_made-in-Differs.new.err)
-    c.placed_line.result c.placed_line.ensures (c.tell_made-in-Differs.ensures.cut cut)
+    made_cut string_bytes c.args.refusal (Differs c.in-Differs.place) (g.E.Sink.written c.args.err.now) (g.E.Sink.written c.tell_made-in-Differs.new.err)
+    c.placed_line.result (ap verdict_of c.in-Differs.is) c.placed_line.ensures (c.tell_made-in-Differs.ensures.cut cut)

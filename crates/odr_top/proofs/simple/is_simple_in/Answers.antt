@@ -1,4 +1,4 @@
-use Rattle.std.proofs.Common.{◌≡◌, ℕ, length, sym, ◌∙◌, subst, arith}
+use Rattle.std.proofs.Common.{◌≡◌, ℕ, length, subst, arith}
 use Rattle.odr_top.proofs.SimpleLemmas.{SimpleFrom, none_yet, grown, whole_region}
 use Rattle.odr_top.proofs.simple.is_simple_in.Goals as goal
 
