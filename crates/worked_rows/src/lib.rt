@@ -1,0 +1,9 @@
+//! Worked rows: whole runs of the program and of its parts, whose answers were worked out by hand from the
+//! formats and from the RISC-V standard. There is nothing here but tests, of what no contract says: that the
+//! calls succeed with ample memory, and that the definitions mean what the standard says.
+#![tactic(auto)]
+
+#[cfg(test)]
+mod first_path;
+#[cfg(test)]
+mod programs;
