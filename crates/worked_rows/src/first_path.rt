@@ -1,6 +1,6 @@
 //! The inference on a log of one thread: words and files go in, a status, lines and a schedule come out.
 
-use crate::programs::{HELLO, HELLO_LOG, LOST_UPDATE_LOG, NOTHING_LOG};
+use crate::programs::{HELLO, HELLO_LOG, LOST_UPDATE_LOG, NOTHING_LOG, changed};
 use odr_io::mem_files::MemFiles;
 use odr_io::mem_sink::MemSink;
 use odr_io::mem_source::MemSource;
@@ -18,9 +18,9 @@ struct Row<'a> {
     words: &'a [&'a str],
     elf: &'a [u8],
     log: &'a [u8],
-    /// A byte of each that is changed: its place and its value.
-    elf_byte: Option<(usize, u8)>,
-    log_byte: Option<(usize, u8)>,
+    /// Bytes of each that are changed: their places and values.
+    elf_changes: &'a [(usize, u8)],
+    log_changes: &'a [(usize, u8)],
     /// The numbers of the calls that fail: of the store, of out and of err.
     failing: [&'a [u64]; 3],
     status: u8,
@@ -37,8 +37,8 @@ const EXPLAINED: Row<'static> = Row {
     words: &WORDS,
     elf: &HELLO,
     log: &HELLO_LOG,
-    elf_byte: None,
-    log_byte: None,
+    elf_changes: &[],
+    log_changes: &[],
     failing: [&[], &[], &[]],
     status: 0,
     out: "run, 8 steps\n",
@@ -95,7 +95,7 @@ static ROWS: [Row<'static>; 28] = [
     },
     Row {
         // The log says `ii` and a line feed.
-        log_byte: Some((26, 0x69)),
+        log_changes: &[(26, 0x69)],
         status: 9,
         err: "odr: differs at 4\n",
         ..NOT_BUILT
@@ -105,12 +105,12 @@ static ROWS: [Row<'static>; 28] = [
         ..NOT_BUILT
     },
     Row {
-        elf_byte: Some((36, 1)),
+        elf_changes: &[(36, 1)],
         ..NOT_BUILT
     },
     Row {
         // The second instruction is `add a0, a0, zero`.
-        elf_byte: Some((120, 0x33)),
+        elf_changes: &[(120, 0x33)],
         ..NOT_BUILT
     },
     Row {
@@ -193,7 +193,7 @@ static ROWS: [Row<'static>; 28] = [
     },
     Row {
         // The log says `ii` and a line feed.
-        log_byte: Some((26, 0x69)),
+        log_changes: &[(26, 0x69)],
         failing: [&[], &[], &[0]],
         err: "",
         ..DEVICE
@@ -213,28 +213,13 @@ fn words_of(alloc: Global, words: &[&str]) -> Result<Vec<String>, AllocError> {
         .try_collect(alloc)
 }
 
-/// A file's bytes, one of them changed.
-fn changed(
-    alloc: Global,
-    bytes: &[u8],
-    change: Option<(usize, u8)>,
-) -> Result<Vec<u8>, AllocError> {
-    let mut file = bytes.to_vec(alloc)?;
-    if let Some((at, byte)) = change
-        && at < file.len()
-    {
-        file[at] = byte;
-    }
-    Ok(file)
-}
-
 /// Runs the program on a row, and compares what comes of it.
 fn meets(rt: &impl Abort, alloc: Global, number: usize, row: &Row<'_>) -> Result<(), Fail> {
     let words = words_of(alloc, row.words)?;
     let [fails, out_fails, err_fails] = row.failing;
     let mut files = MemFiles::new(alloc, fails.to_vec(alloc)?);
-    let elf = changed(alloc, row.elf, row.elf_byte)?;
-    let log = changed(alloc, row.log, row.log_byte)?;
+    let elf = changed(alloc, row.elf, row.elf_changes)?;
+    let log = changed(alloc, row.log, row.log_changes)?;
     files.hold("hello", elf.as_slice())?;
     files.hold("hello.log", log.as_slice())?;
     let mut commands = MemSource::new(Vec::new(alloc), vec![in alloc; 0]?);

@@ -4,6 +4,16 @@
 #![tactic(auto)]
 
 #[cfg(test)]
+mod calls;
+#[cfg(test)]
 mod first_path;
 #[cfg(test)]
+mod instructions;
+#[cfg(test)]
 mod programs;
+#[cfg(test)]
+mod reservations;
+#[cfg(test)]
+mod runs;
+#[cfg(test)]
+mod stepping;
