@@ -1,0 +1,4 @@
+pub mod Rows
+pub mod BlockLemmas
+pub mod Spans
+pub mod OpeningLemmas

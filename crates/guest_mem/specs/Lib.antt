@@ -1,0 +1,5 @@
+pub mod Blocks
+pub mod Opening
+pub mod Runs
+pub mod Width
+pub mod Laws
