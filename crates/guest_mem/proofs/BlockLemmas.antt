@@ -1,6 +1,6 @@
 -- The memory that blocks hold where no two share an address.
-use Rattle.std.proofs.Common.{◌≡◌, ◌≢◌, ℕ, zero, suc, ◌+◌, ◌-◌, ◌^◌, ◌<◌, ◌≤◌, Bool, true, false, cond, ◌&&◌, leb, ltb, List, [], ◌∷◌, ◌++◌, length, get_or, set, take, drop, refl, sym, ap, subst, ◌∙◌, ◌⊎◌, inl, inr, arith, Option, Some, None}
-use Rattle.std.proofs.lemmas.Bool.{cond-true, cond-false, and_parts, both_ways, cases_Bool, cases_eq}
+use Rattle.std.proofs.Common.{◌≡◌, ℕ, zero, suc, ◌+◌, ◌-◌, ◌^◌, ◌<◌, ◌≤◌, Bool, true, false, cond, ◌&&◌, leb, ltb, List, [], ◌∷◌, length, get_or, set, drop, refl, sym, ap, subst, ◌∙◌, ◌⊎◌, inl, inr, arith, Option, Some}
+use Rattle.std.proofs.lemmas.Bool.{cond-true, cond-false, cases_Bool, cases_eq}
 use Rattle.std.proofs.lemmas.Bool.Decides.{nat_tests}
 use Rattle.std.proofs.lemmas.List.{length-append, length-take, length-drop, length-set, get_or-drop, get_or-set_same, get_or-set_other, get_or_read, get_or_default, places}
 use Rattle.std.specs.List.{AllPairs}
@@ -23,9 +23,9 @@ cells_of-covered [] place default at apart within covered = absurd (omega arith)
 cells_of-covered (block ∷ blocks) zero default at apart within covered = cond-true (covers block at) (Some (cell_in block at)) (cells_of blocks at) covered
 cells_of-covered (block ∷ blocks) (suc place) default at apart within covered =
     elim (cases_Bool (covers block at)) [
-      inl first ↦ absurd (apart 0 (suc place) default (omega arith) within at first covered)
-    | inr later ↦ cond-false (covers block at) (Some (cell_in block at)) (cells_of blocks at) later
-        ∙ cells_of-covered blocks place default at (apart_rest block blocks apart) (omega arith) covered
+      | inl first ↦ absurd (apart 0 (suc place) default (omega arith) within at first covered)
+      | inr later ↦ cond-false (covers block at) (Some (cell_in block at)) (cells_of blocks at) later
+          ∙ cells_of-covered blocks place default at (apart_rest block blocks apart) (omega arith) covered
     ]
 
 -- a change of one block changes nothing at the addresses of others
@@ -56,7 +56,7 @@ held_in blocks place block apart within is =
 
 readable_run : (cells : Cells) (block : Block) (address : ℕ) → IsHeld cells block → covers block address ≡ true → block.start + length block.bytes < 2 ^ 32
     → (readable : Bool) → block.readable ≡ readable → AreReadable cells address (cond readable (drop (address - block.start) block.bytes) [])
-readable_run cells block address held covered below false right = 
+readable_run cells block address held covered below false right =
     let inside = placed block address covered in
     record { all = refl; same = refl; below = omega arith; none = λ _. ap is_readable (held.at address covered) ∙ right }
 readable_run cells block address held covered below true right =
@@ -154,7 +154,7 @@ Stands-written blocks place block address bytes apart within is from to below =
     Stands-row (cells_of blocks) (cells_of (set blocks place new)) address bytes (omega arith)
     (λ k at in_row same. after at (covered_at k at in_row same) ∙ here block address bytes k at from to in_row same ∙ ap (λ (c : Option Cell). option_map (with_byte (get_or bytes k 0)) c) (sym (before at (covered_at k at in_row same))))
     (λ at out. elim (cases_Bool (covers block at)) [
-        inl covered ↦ after at covered ∙ there block address bytes at from to covered out ∙ sym (before at covered)
+      | inl covered ↦ after at covered ∙ there block address bytes at from to covered out ∙ sym (before at covered)
       | inr other ↦ cells_of-set_other blocks place new block at (covers-written block address bytes at from to ∙ other) (ap (λ (b : Block). covers b at) (sym is) ∙ other)
     ])
   where

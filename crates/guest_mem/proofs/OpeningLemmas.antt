@@ -1,5 +1,5 @@
 -- The blocks of a memory before the first step hold the image's opening, and share no address.
-use Rattle.std.proofs.Common.{◌≡◌, ℕ, zero, suc, ◌+◌, ◌-◌, ◌*◌, ◌%◌, ◌^◌, ◌<◌, ◌≤◌, Bool, true, false, cond, ◌&&◌, leb, ltb, List, [], ◌∷◌, ◌++◌, length, map, slice_index, replicate, refl, sym, ap, subst, ◌∙◌, inl, inr, arith, Option, Some, None}
+use Rattle.std.proofs.Common.{◌≡◌, ℕ, zero, suc, ◌+◌, ◌-◌, ◌*◌, ◌%◌, ◌<◌, ◌≤◌, Bool, true, false, cond, ◌&&◌, leb, ltb, List, [], ◌∷◌, ◌++◌, length, map, slice_index, replicate, refl, sym, ap, subst, ◌∙◌, inl, inr, arith, Some, None}
 use Rattle.std.proofs.lemmas.Bool.{cond-true, cond-false, cases_Bool, cases_lt}
 use Rattle.std.proofs.lemmas.Bool.Decides.{nat_tests}
 use Rattle.std.proofs.lemmas.List.{length-replicate, get_or-replicate, get_or_past}
@@ -60,10 +60,10 @@ unfolding cells_of
 in_stacks thread zero at inside = absurd (omega (arith, inside.from, inside.to))
 in_stacks thread (suc count) at inside =
     elim (cases_Bool (covers (stack_block thread) at)) [
-      inl covered ↦ cond-true (covers (stack_block thread) at) (Some (cell_in (stack_block thread) at)) (cells_of (stacks_from (thread + 1) count) at) covered
-        ∙ ap (λ (c : Cell). Some c) (cell_in-zero_block (0x70000000 + thread * 0x10000) 16384 at)
-    | inr other ↦ cond-false (covers (stack_block thread) at) (Some (cell_in (stack_block thread) at)) (cells_of (stacks_from (thread + 1) count) at) other
-        ∙ in_stacks (thread + 1) count at (in_later thread count at other inside)
+      | inl covered ↦ cond-true (covers (stack_block thread) at) (Some (cell_in (stack_block thread) at)) (cells_of (stacks_from (thread + 1) count) at) covered
+          ∙ ap (λ (c : Cell). Some c) (cell_in-zero_block (0x70000000 + thread * 0x10000) 16384 at)
+      | inr other ↦ cond-false (covers (stack_block thread) at) (Some (cell_in (stack_block thread) at)) (cells_of (stacks_from (thread + 1) count) at) other
+          ∙ in_stacks (thread + 1) count at (in_later thread count at other inside)
     ]
 
 out_of_stacks : (thread count at : ℕ) → (IsInStacks thread count at → ⊥) → cells_of (stacks_from thread count) at ≡ None
@@ -71,19 +71,19 @@ unfolding cells_of
 out_of_stacks thread zero at outside = refl
 out_of_stacks thread (suc count) at outside =
     elim (cases_Bool (covers (stack_block thread) at)) [
-      inl covered ↦ absurd (outside (in_first thread count at covered))
-    | inr other ↦ cond-false (covers (stack_block thread) at) (Some (cell_in (stack_block thread) at)) (cells_of (stacks_from (thread + 1) count) at) other
-        ∙ out_of_stacks (thread + 1) count at (λ inside. outside (later_in thread count at inside))
+      | inl covered ↦ absurd (outside (in_first thread count at covered))
+      | inr other ↦ cond-false (covers (stack_block thread) at) (Some (cell_in (stack_block thread) at)) (cells_of (stacks_from (thread + 1) count) at) other
+          ∙ out_of_stacks (thread + 1) count at (λ inside. outside (later_in thread count at inside))
     ]
 
 -- the eight stacks hold what the memory has outside the regions
 cells_of-stacks : (at : ℕ) → cells_of (stacks_from 0 8) at ≡ stack_cell at
 cells_of-stacks at =
     elim (cases_Bool (in_stack at)) [
-      inl inside ↦ in_stacks 0 8 at (record { from = grind (arith, nat_tests, inside); to = grind (arith, nat_tests, inside); low = grind (arith, nat_tests, inside) })
-        ∙ sym (cond-true (in_stack at) (Some zeros) None inside)
-    | inr outside ↦ out_of_stacks 0 8 at (λ inside. grind (arith, nat_tests, outside, inside.from, inside.to, inside.low))
-        ∙ sym (cond-false (in_stack at) (Some zeros) None outside)
+      | inl inside ↦ in_stacks 0 8 at (record { from = grind (arith, nat_tests, inside); to = grind (arith, nat_tests, inside); low = grind (arith, nat_tests, inside) })
+          ∙ sym (cond-true (in_stack at) (Some zeros) None inside)
+      | inr outside ↦ out_of_stacks 0 8 at (λ inside. grind (arith, nat_tests, outside, inside.from, inside.to, inside.low))
+          ∙ sym (cond-false (in_stack at) (Some zeros) None outside)
     ]
 
 cells_of-regions : (regions : List Region) (stacks : List Block) (at : ℕ) → cells_of stacks at ≡ stack_cell at → cells_of (map block_of regions ++ stacks) at ≡ memory.cell_in (region_at regions at) at
@@ -137,8 +137,8 @@ AllPairs-regions [] placed apart = AllPairs-stacks 0 8
 AllPairs-regions (region ∷ regions) placed apart =
     AllPairs-cons AreApart (block_of region) (map block_of regions ++ stacks_from 0 8)
     (All-append (AreApart (block_of region)) (map block_of regions) (stacks_from 0 8)
-        (All-map (AreApart (block_of region)) block_of regions (λ k d within. apart 0 (suc k) d (omega arith) (omega arith)))
-        (below_stacks region 0 8 (All-head IsPlaced region regions placed)))
+    (All-map (AreApart (block_of region)) block_of regions (λ k d within. apart 0 (suc k) d (omega arith) (omega arith)))
+    (below_stacks region 0 8 (All-head IsPlaced region regions placed)))
     (AllPairs-regions regions (All-tail IsPlaced region regions placed) (λ i j d before within. apart (suc i) (suc j) d (omega arith) (omega arith)))
 
 pub AllPairs-opening : (image : Layout) (blocks : List Block) → IsSound image → blocks ≡ map block_of image.regions ++ stacks_from 0 8 → AllPairs AreApart blocks

@@ -1,5 +1,5 @@
 -- Bytes that stand in a row, none of them past the top address.
-use Rattle.std.proofs.Common.{◌≡◌, ◌≢◌, ℕ, zero, suc, ◌+◌, ◌-◌, ◌^◌, ◌%◌, ◌<◌, ◌≤◌, Bool, true, false, cond, ◌&&◌, eqb, nat_eq, List, [], ◌∷◌, ◌++◌, length, get_or, refl, sym, ap, ◌∙◌, ◌⊎◌, inl, inr, arith, Option, Some, None}
+use Rattle.std.proofs.Common.{◌≡◌, ◌≢◌, ℕ, zero, suc, ◌+◌, ◌-◌, ◌^◌, ◌<◌, ◌≤◌, Bool, true, false, cond, nat_eq, List, [], ◌∷◌, length, get_or, refl, sym, ap, ◌∙◌, ◌⊎◌, inl, inr, arith, Option, Some, None}
 use Rattle.std.specs.Option.{option_map}
 use Rattle.std.proofs.lemmas.Bool.{cond-true, cond-false, and_from, eq-eqb, ne_eqb, cases_lt}
 use Rattle.std.proofs.Math.Nat.{mod-eq_of_lt}
@@ -77,9 +77,9 @@ pub Stands-row : (before after : Cells) (address : ℕ) (bytes : List ℕ) → a
     → Stands before (writes_of address bytes []) after
 Stands-row before after address bytes small here there at =
     elim (cases_lt at address) [
-      inl below ↦ there at (inl below) ∙ sym (outside before address bytes [] at small (inl below))
-    | inr from ↦ elim (cases_lt at (address + length bytes)) [
-        inl within ↦ here (at - address) at (omega arith) (omega arith) ∙ sym (inside before address bytes [] (at - address) at small (omega arith) (omega arith))
-      | inr past ↦ there at (inr past) ∙ sym (outside before address bytes [] at small (inr past))
+      | inl below ↦ there at (inl below) ∙ sym (outside before address bytes [] at small (inl below))
+      | inr from ↦ elim (cases_lt at (address + length bytes)) [
+        | inl within ↦ here (at - address) at (omega arith) (omega arith) ∙ sym (inside before address bytes [] (at - address) at small (omega arith) (omega arith))
+        | inr past ↦ there at (inr past) ∙ sym (outside before address bytes [] at small (inr past))
       ]
     ]

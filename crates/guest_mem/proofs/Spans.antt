@@ -1,8 +1,9 @@
 -- Bytes from an address on, a run or a byte at a time.
-use Rattle.std.proofs.Common.{◌≡◌, ℕ, zero, suc, ◌+◌, ◌-◌, ◌^◌, ◌<◌, ◌≤◌, Bool, true, false, ◌&&◌, List, [], ◌∷◌, ◌++◌, length, take, refl, sym, ap, ◌∙◌, arith}
-use Rattle.std.proofs.lemmas.Bool.{and_parts, and_from, and_left}
+use Rattle.std.proofs.Common.{◌≡◌, ℕ, zero, suc, ◌+◌, ◌-◌, ◌^◌, ◌<◌, ◌≤◌, Bool, true, false, ◌&&◌, List, ◌∷◌, length, take, ap, ◌∙◌, arith}
+use Rattle.std.proofs.lemmas.Bool.{and_parts, and_left}
 use Rattle.elf_image.specs.Memory.{Cells, next, is_readable, is_writable, byte_in, all_readable, all_writable, bytes_from}
 use Rattle.guest_mem.specs.Runs.{AreReadable, AreWritable}
+use Rattle.guest_mem.specs.Laws.{all_readable-fewer, all_writable-fewer, bytes_from-fewer}
 use Rattle.guest_mem.proofs.Rows.{next_is}
 
 -- bytes of a row that may be read leave the question to the rest
@@ -25,21 +26,6 @@ all_writable-split cells address (suc m) (suc n) at left small same count row =
     let e : next address ≡ address + 1 = next_is address (omega arith) in
     ap (λ (b : Bool). b && all_writable cells (next address) n) parts.0
     ∙ all_writable-split cells (next address) m n at left (omega (arith, e)) (omega (arith, e)) (omega arith) parts.1
-
--- the first part of bytes that may be read or written
-all_readable-fewer : (cells : Cells) (address m n : ℕ) → m ≤ n → all_readable cells address n ≡ true → all_readable cells address m ≡ true
-all_readable-fewer cells address zero n fewer all = refl
-all_readable-fewer cells address (suc m) zero fewer all = absurd (omega arith)
-all_readable-fewer cells address (suc m) (suc n) fewer all =
-    let parts = and_parts (is_readable (cells address)) (all_readable cells (next address) n) all in
-    and_from (is_readable (cells address)) (all_readable cells (next address) m) parts.0 (all_readable-fewer cells (next address) m n (omega arith) parts.1)
-
-all_writable-fewer : (cells : Cells) (address m n : ℕ) → m ≤ n → all_writable cells address n ≡ true → all_writable cells address m ≡ true
-all_writable-fewer cells address zero n fewer all = refl
-all_writable-fewer cells address (suc m) zero fewer all = absurd (omega arith)
-all_writable-fewer cells address (suc m) (suc n) fewer all =
-    let parts = and_parts (is_writable (cells address)) (all_writable cells (next address) n) all in
-    and_from (is_writable (cells address)) (all_writable cells (next address) m) parts.0 (all_writable-fewer cells (next address) m n (omega arith) parts.1)
 
 -- what the bytes up to the end of a block say of an access
 pub all_readable-within : (cells : Cells) (address count : ℕ) (bytes : List ℕ) → AreReadable cells address bytes → count ≤ length bytes → all_readable cells address count ≡ true
@@ -68,16 +54,7 @@ bytes_from-more cells address n i within = let e : n - i ≡ suc (n - (i + 1)) =
 pub all_writable-more : (cells : Cells) (address n i : ℕ) → i < n → all_writable cells address (n - i) ≡ (is_writable (cells address) && all_writable cells (next address) (n - (i + 1)))
 all_writable-more cells address n i within = let e : n - i ≡ suc (n - (i + 1)) = omega arith in ap (all_writable cells address) e
 
-bytes_from-fewer : (cells : Cells) (address m n : ℕ) → m ≤ n → bytes_from cells address m ≡ take m (bytes_from cells address n)
-bytes_from-fewer cells address zero n fewer = refl
-bytes_from-fewer cells address (suc m) zero fewer = absurd (omega arith)
-bytes_from-fewer cells address (suc m) (suc n) fewer = ap (λ (bs : List ℕ). byte_in (cells address) ∷ bs) (bytes_from-fewer cells (next address) m n (omega arith))
-
 pub bytes_from-within : (cells : Cells) (address count : ℕ) (bytes : List ℕ) → AreReadable cells address bytes → count ≤ length bytes → bytes_from cells address count ≡ take count bytes
 bytes_from-within cells address count bytes run within = bytes_from-fewer cells address count (length bytes) within ∙ ap (λ (bs : List ℕ). take count bs) run.same
-
-pub length-bytes_from : (cells : Cells) (address count : ℕ) → length (bytes_from cells address count) ≡ count
-length-bytes_from cells address zero = refl
-length-bytes_from cells address (suc count) = ap suc (length-bytes_from cells (next address) count)
 
 pub ruleset spans = (all_readable-within, all_readable-past, all_readable-none, all_writable-within, all_writable-past, all_writable-none, bytes_from-more, bytes_from-within, all_writable-more)

@@ -1,5 +1,5 @@
 -- What contracts see of a guest's memory: its blocks, whose bytes change in place.
-use Rattle.std.specs.Prelude.{ℕ, ◌+◌, ◌-◌, Bool, ◌&&◌, List, [], ◌∷◌, ◌++◌, length, take, drop, nat_le, nat_lt, slice_index, slice_index_or, IsTrue, Option, Some, None, if◌then◌else◌}
+use Rattle.std.specs.Prelude.{ℕ, ◌+◌, ◌-◌, Bool, ◌&&◌, List, [], ◌∷◌, ◌++◌, length, take, drop, nat_le, nat_lt, slice_index, IsTrue, Some, None, if◌then◌else◌}
 use Rattle.elf_image.specs.declared.cell.Cell.{Cell}
 use Rattle.elf_image.specs.Memory.{Cells}
 

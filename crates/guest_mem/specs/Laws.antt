@@ -1,9 +1,10 @@
--- Laws of the memory after a list of writes.
-use Rattle.std.proofs.Common.{◌≡◌, ℕ, zero, suc, ◌+◌, Bool, true, false, cond, ◌&&◌, nat_eq, List, [], ◌∷◌, ◌++◌, refl, sym, ap, ◌∙◌, Option, Some, None}
+-- Laws of memory: of a list of writes, and of accesses to fewer bytes.
+use Rattle.std.proofs.Common.{◌≡◌, ℕ, zero, suc, ◌≤◌, Bool, true, false, cond, ◌&&◌, nat_eq, List, [], ◌∷◌, ◌++◌, length, take, refl, ap, ◌∙◌, arith, Option, Some, None}
+use Rattle.std.proofs.lemmas.Bool.{and_parts, and_from}
 use Rattle.std.specs.Option.{option_map}
 use Rattle.elf_image.specs.declared.write.Write.{Write}
 use Rattle.elf_image.specs.declared.cell.Cell.{Cell}
-use Rattle.elf_image.specs.Memory.{Cells, cells_after, Stands, with_byte, next, is_readable, is_writable, all_readable, all_writable}
+use Rattle.elf_image.specs.Memory.{Cells, cells_after, Stands, with_byte, next, is_readable, is_writable, byte_in, all_readable, all_writable, bytes_from}
 
 -- The writes of two calls, one after the other, are the writes of both.
 abbrev pub WritesChain : Type 0
@@ -69,3 +70,27 @@ all_writable-Stands before after writes address (suc count) stands =
 
 pub Stands-rights : RightsStay
 Stands-rights before after writes address count stands = (all_readable-Stands before after writes address count stands, all_writable-Stands before after writes address count stands)
+
+-- An access to fewer bytes may be made too, and meets the first of them.
+pub all_readable-fewer : (cells : Cells) (address m n : ℕ) → m ≤ n → all_readable cells address n ≡ true → all_readable cells address m ≡ true
+all_readable-fewer cells address zero n fewer all = refl
+all_readable-fewer cells address (suc m) zero fewer all = absurd (omega arith)
+all_readable-fewer cells address (suc m) (suc n) fewer all =
+    let parts = and_parts (is_readable (cells address)) (all_readable cells (next address) n) all in
+    and_from (is_readable (cells address)) (all_readable cells (next address) m) parts.0 (all_readable-fewer cells (next address) m n (omega arith) parts.1)
+
+pub all_writable-fewer : (cells : Cells) (address m n : ℕ) → m ≤ n → all_writable cells address n ≡ true → all_writable cells address m ≡ true
+all_writable-fewer cells address zero n fewer all = refl
+all_writable-fewer cells address (suc m) zero fewer all = absurd (omega arith)
+all_writable-fewer cells address (suc m) (suc n) fewer all =
+    let parts = and_parts (is_writable (cells address)) (all_writable cells (next address) n) all in
+    and_from (is_writable (cells address)) (all_writable cells (next address) m) parts.0 (all_writable-fewer cells (next address) m n (omega arith) parts.1)
+
+pub bytes_from-fewer : (cells : Cells) (address m n : ℕ) → m ≤ n → bytes_from cells address m ≡ take m (bytes_from cells address n)
+bytes_from-fewer cells address zero n fewer = refl
+bytes_from-fewer cells address (suc m) zero fewer = absurd (omega arith)
+bytes_from-fewer cells address (suc m) (suc n) fewer = ap (λ (bytes : List ℕ). byte_in (cells address) ∷ bytes) (bytes_from-fewer cells (next address) m n (omega arith))
+
+pub length-bytes_from : (cells : Cells) (address count : ℕ) → length (bytes_from cells address count) ≡ count
+length-bytes_from cells address zero = refl
+length-bytes_from cells address (suc count) = ap suc (length-bytes_from cells (next address) count)

@@ -51,7 +51,7 @@ pub fn all_writable(blocks: &[Buffer], address: u32, count: usize) -> bool
 
 /// Reads bytes one by one from an address on, wherever they stand.
 #[tactic(auto, using(crate::proofs::Spans::spans))]
-pub fn load_each(blocks: &[Buffer], address: u32, into: &mut [u8])
+fn load_each(blocks: &[Buffer], address: u32, into: &mut [u8])
     requires { AllPairs AreApart blocks.now }
     ensures { into.new ≡ bytes_from (cells_of blocks.now) address (length into.old) }
 {
@@ -124,7 +124,7 @@ pub fn get(blocks: &[Buffer], address: u32, width: Width) -> Option<u32>
 }
 
 /// Writes bytes that may be written one by one from an address on, wherever they stand.
-pub fn store_each(blocks: &mut [Buffer], address: u32, bytes: &[u8])
+fn store_each(blocks: &mut [Buffer], address: u32, bytes: &[u8])
     requires apart { AllPairs AreApart blocks.old }
     requires writable { IsTrue (all_writable (cells_of blocks.old) address (length bytes.now)) }
     ensures apart { AllPairs AreApart blocks.new }

@@ -6,11 +6,12 @@ ghost use Rattle.guest_mem.specs.Blocks.{cells_of, AreApart};
 ghost use Rattle.guest_mem.specs.Runs.{IsIn, AreReadable, AreWritable};
 
 use crate::buffer::Buffer;
+use crate::opening::{FIRST_STACK, STACK_DISTANCE, STACKS};
 use elf_image::cell::Cell;
 
-/// The place of the block that an address is in.
+/// The place of the first block that an address is in.
 #[tactic(auto, unfolding(crate::specs::Blocks::cells_of))]
-fn place_of(blocks: &[Buffer], address: u32) -> Option<usize>
+fn first_place(blocks: &[Buffer], address: u32) -> Option<usize>
     ensures found { IfSome result (λ place. IsIn blocks.now place address) }
     ensures none { IfNone result (cells_of blocks.now address ≡ None) }
 {
@@ -20,6 +21,30 @@ fn place_of(blocks: &[Buffer], address: u32) -> Option<usize>
         }
     }
     None
+}
+
+/// The place of the stack that an address is in, found without a search where the last blocks are the stacks.
+fn stack_place(blocks: &[Buffer], address: u32) -> Option<usize>
+    ensures { IfSome result (λ place. IsIn blocks.now place address) }
+{
+    let stack = address.checked_sub(FIRST_STACK)? / STACK_DISTANCE;
+    let place = (blocks.len() + stack as usize).checked_sub(STACKS as usize)?;
+    if place < blocks.len() && blocks[place].covers(address) {
+        Some(place)
+    } else {
+        None
+    }
+}
+
+/// The place of the block that an address is in.
+fn place_of(blocks: &[Buffer], address: u32) -> Option<usize>
+    ensures found { IfSome result (λ place. IsIn blocks.now place address) }
+    ensures none { IfNone result (cells_of blocks.now address ≡ None) }
+{
+    match stack_place(blocks, address) {
+        Some(place) => Some(place),
+        None => first_place(blocks, address),
+    }
 }
 
 /// The byte at an address, with its rights.

@@ -1,6 +1,7 @@
-ghost use Rattle.std.specs.Prelude.{◌≡◌, ◌*◌, ◌%◌, ◌^◌, ◌<◌, ◌&&◌, [], length, nat_eq, IfOk, IfSome, option_map};
+ghost use Rattle.std.specs.Prelude.{◌≡◌, ◌*◌, ◌%◌, ◌^◌, ◌<◌, ◌&&◌, List, [], length, nat_eq, IfOk, IfSome, option_map};
 ghost use Rattle.std.specs.Bool.{OnTrue, OnFalse};
-ghost use Rattle.elf_image.specs.Memory.{opening_cells, Stands, all_readable, all_writable, bytes_from, load_bytes, writes_of, number_of, bytes_of};
+ghost use Rattle.elf_image.specs.declared.write.Write.{Write};
+ghost use Rattle.elf_image.specs.Memory.{Cells, opening_cells, cells_after, Stands, all_readable, all_writable, bytes_from, load_bytes, writes_of, number_of, bytes_of};
 ghost use Rattle.guest_mem.specs.Blocks.{cells_of};
 ghost use Rattle.guest_mem.specs.Width.{size_of};
 
@@ -47,9 +48,10 @@ impl GuestMem {
         Ok(GuestMem { blocks })
     }
 
-    /// The byte at an address. None exactly outside all regions and stacks.
+    /// The byte at an address: the newest one written there. None exactly outside all regions and stacks.
     pub fn byte(&self, address: u32) -> Option<u8>
-        ensures { result ≡ option_map (λ cell. cell.byte) (cells_of self.now address) }
+        ensures byte { result ≡ option_map (λ cell. cell.byte) (cells_of self.now address) }
+        ensures newest { (before : Cells) (writes : List Write) → Stands before writes (cells_of self.now) → result ≡ option_map (λ cell. cell.byte) (cells_after before writes address) }
     {
         let cell = cell(self.blocks.as_slice(), address)?;
         Some(cell.byte)

@@ -8,6 +8,8 @@ mod buffer;
 pub mod guest_memory;
 pub mod law;
 mod opening;
+#[cfg(test)]
+mod tests;
 pub mod width;
 
 pub use odr_list::memory::Memory;

@@ -8,10 +8,16 @@ use elf_image::region::Region;
 use odr_list::memory::Memory;
 use std::alloc::Global;
 
-// The eight stacks: where the first begins, how far apart they begin, and how many bytes each has.
-const STACKS: u32 = 8;
-const FIRST_STACK: u32 = 0x7000_0000;
-const STACK_DISTANCE: u32 = 0x1_0000;
+/// The number of stacks.
+pub const STACKS: u32 = 8;
+
+/// The address of the first stack.
+pub const FIRST_STACK: u32 = 0x7000_0000;
+
+/// How far apart two stacks begin, in bytes.
+pub const STACK_DISTANCE: u32 = 0x1_0000;
+
+// The number of bytes of a stack.
 const STACK_SIZE: u32 = 16_384;
 
 /// Copies of the regions.

@@ -1,6 +1,6 @@
-use Rattle.std.proofs.Common.{◌≡◌, ℕ, ◌+◌, ◌-◌, ◌<◌, List, [], ◌∷◌, ◌++◌, length, take, sym, ap, ◌∙◌, append_assoc, arith}
+use Rattle.std.proofs.Common.{ℕ, ◌+◌, ◌-◌, List, [], ◌∷◌, ◌++◌, length, take, sym, ap, ◌∙◌, append_assoc, arith}
 use Rattle.std.proofs.lemmas.List.{take_more_set}
-use Rattle.elf_image.specs.Memory.{Cells, next, byte_in, bytes_from}
+use Rattle.elf_image.specs.Memory.{Cells, next, bytes_from}
 use Rattle.guest_mem.specs.Blocks.{cells_of}
 use Rattle.guest_mem.proofs.Spans.{bytes_from-more}
 use Rattle.guest_mem.proofs.accesses.load_each.Goals as goal

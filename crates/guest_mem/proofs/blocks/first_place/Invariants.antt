@@ -1,6 +1,6 @@
 use Rattle.std.proofs.Common.{◌≡◌, drop}
 use Rattle.guest_mem.specs.Blocks.{cells_of}
-use Rattle.guest_mem.proofs.blocks.place_of.Given as goal
+use Rattle.guest_mem.proofs.blocks.first_place.Given as goal
 
 -- no block so far has the address
 abbrev pub invariant-loop-place : goal.invariant-loop-place
