@@ -177,8 +177,15 @@ Stands-written blocks place block address bytes apart within is from to below =
         (held_in (set blocks place new) place new apart_after (omega (arith, size, within)) same).at at (covers-written block address bytes at from to ∙ covered)
 
 -- the block at the place of an address, whatever stands past the end of the list
-pub whole : (blocks : List Block) (place address : ℕ) (default : Block) → IsIn blocks place address → get_or blocks place default ≡ get_or blocks place (get_or blocks place default)
+whole : (blocks : List Block) (place address : ℕ) (default : Block) → IsIn blocks place address → get_or blocks place default ≡ get_or blocks place (get_or blocks place default)
 whole blocks place address default found = get_or_default blocks place default (get_or blocks place default) found.within
+
+pub AreWritable-at : (blocks : List Block) (place address : ℕ) (default : Block) (count : ℕ) → AllPairs AreApart blocks → IsIn blocks place address
+    → (get_or blocks place default).start + length (get_or blocks place default).bytes < 2 ^ 32
+    → count ≡ cond (get_or blocks place default).writable ((get_or blocks place default).start + length (get_or blocks place default).bytes - address) 0
+    → AreWritable (cells_of blocks) address count
+AreWritable-at blocks place address default count apart found below e =
+    AreWritable-in blocks place address (get_or blocks place default) count apart found (whole blocks place address default found) below e
 
 -- where an address stands in its block
 inside : (blocks : List Block) (place address : ℕ) (default : Block) → IsIn blocks place address

@@ -20,3 +20,9 @@ pub record AreWritable (cells : Cells) (address count : ℕ) : Type 0 where
   pub all : all_writable cells address count ≡ true
   pub below : address + count < 2 ^ 32
   pub none : count ≡ 0 → is_writable (cells address) ≡ false
+
+-- fewer bytes than these may be written before the end of the block, none outside all blocks
+pub record EndsBefore (cells : Cells) (address count : ℕ) : Type 0 where
+  pub run : ℕ
+  pub fits : AreWritable cells address run
+  pub short : run < count

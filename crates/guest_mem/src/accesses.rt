@@ -1,7 +1,8 @@
 //! Accesses wherever their bytes stand, in blocks that share no address.
-ghost use Rattle.std.specs.Prelude.{◌≡◌, ◌≤◌, ◌*◌, ◌^◌, ◌<◌, [], length, take, nat_le, IsTrue, IfSome, AllPairs, Some, None, option_map, if◌then◌else◌};
+ghost use Rattle.std.specs.Prelude.{◌≡◌, ◌*◌, ◌^◌, ◌<◌, [], length, take, nat_le, IsTrue, IfSome, AllPairs, Some, None, if◌then◌else◌};
 ghost use Rattle.std.specs.Bool.{OnTrue, OnFalse};
-ghost use Rattle.elf_image.specs.Memory.{all_readable, all_writable, bytes_from, load_bytes, number_of, writes_of, Stands};
+ghost use Rattle.elf_image.specs.Memory.{all_readable, all_writable, bytes_from, number_of, writes_of, Stands};
+ghost use Rattle.guest_mem.specs.Accesses.{number_at};
 ghost use Rattle.guest_mem.specs.Blocks.{cells_of, AreApart};
 ghost use Rattle.guest_mem.specs.Width.{size_of};
 
@@ -99,7 +100,7 @@ fn number_in(bytes: &[u8], width: Width) -> Option<u32>
 /// The number at an address, wherever its bytes stand.
 fn get_spanning(blocks: &[Buffer], address: u32, width: Width) -> Option<u32>
     requires { AllPairs AreApart blocks.now }
-    ensures value { result ≡ option_map number_of (load_bytes (cells_of blocks.now) address (size_of width)) }
+    ensures value { result ≡ number_at (cells_of blocks.now) address (size_of width) }
     ensures small { IfSome result (λ value. value < 2 ^ (8 * size_of width)) }
 {
     let mut bytes = [0; 4];
@@ -114,7 +115,7 @@ fn get_spanning(blocks: &[Buffer], address: u32, width: Width) -> Option<u32>
 /// The number at an address; none where one of its bytes may not be read.
 pub fn get(blocks: &[Buffer], address: u32, width: Width) -> Option<u32>
     requires { AllPairs AreApart blocks.now }
-    ensures value { result ≡ option_map number_of (load_bytes (cells_of blocks.now) address (size_of width)) }
+    ensures value { result ≡ number_at (cells_of blocks.now) address (size_of width) }
     ensures small { IfSome result (λ value. value < 2 ^ (8 * size_of width)) }
 {
     match number_in(readable_from(blocks, address), width) {

@@ -3,7 +3,7 @@ ghost use Rattle.std.specs.Prelude.{◌≡◌, [], ◌∷◌, length, IsTrue, If
 ghost use Rattle.std.specs.Bool.{OnTrue, OnFalse};
 ghost use Rattle.elf_image.specs.Memory.{is_writable, byte_in, all_writable, writes_of, Stands};
 ghost use Rattle.guest_mem.specs.Blocks.{cells_of, AreApart};
-ghost use Rattle.guest_mem.specs.Runs.{IsIn, AreReadable, AreWritable};
+ghost use Rattle.guest_mem.specs.Runs.{IsIn, AreReadable, AreWritable, EndsBefore};
 
 use crate::buffer::Buffer;
 use crate::opening::{FIRST_STACK, STACK_DISTANCE, STACKS};
@@ -90,16 +90,18 @@ pub fn byte_at(blocks: &[Buffer], address: u32) -> u8
     }
 }
 
-/// Writes bytes from an address on if one block has them all and they may be written.
+/// Writes bytes from an address on; false where its block ends before they do or may not be written, and then
+/// nothing is written.
 pub fn store_in_one(blocks: &mut [Buffer], address: u32, bytes: &[u8]) -> bool
     requires { AllPairs AreApart blocks.old }
     ensures apart { AllPairs AreApart blocks.new }
     ensures allowed { OnTrue result (IsTrue (all_writable (cells_of blocks.old) address (length bytes.now))) }
     ensures stored { OnTrue result (Stands (cells_of blocks.old) (writes_of address bytes.now []) (cells_of blocks.new)) }
     ensures refused { OnFalse result (blocks.new ≡ blocks.old) }
+    ensures short { OnFalse result (EndsBefore (cells_of blocks.old) address (length bytes.now)) }
 {
     let Some(place) = place_of(blocks, address) else {
-        return false;
+        return bytes.is_empty();
     };
     let block = &mut blocks[place];
     if block.writable_from(address) < bytes.len() {

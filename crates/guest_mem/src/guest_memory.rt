@@ -1,7 +1,8 @@
-ghost use Rattle.std.specs.Prelude.{◌≡◌, ◌*◌, ◌%◌, ◌^◌, ◌<◌, ◌&&◌, List, [], length, nat_eq, IfOk, IfSome, option_map};
+ghost use Rattle.std.specs.Prelude.{◌≡◌, ◌*◌, ◌^◌, ◌<◌, List, [], length, IfOk, IfSome};
 ghost use Rattle.std.specs.Bool.{OnTrue, OnFalse};
 ghost use Rattle.elf_image.specs.declared.write.Write.{Write};
-ghost use Rattle.elf_image.specs.Memory.{Cells, opening_cells, cells_after, Stands, all_readable, all_writable, bytes_from, load_bytes, writes_of, number_of, bytes_of};
+ghost use Rattle.elf_image.specs.Memory.{Cells, opening_cells, cells_after, Stands, all_readable, all_writable, bytes_from, writes_of, bytes_of};
+ghost use Rattle.guest_mem.specs.Accesses.{byte_of, number_at, may_amo};
 ghost use Rattle.guest_mem.specs.Blocks.{cells_of};
 ghost use Rattle.guest_mem.specs.Width.{size_of};
 
@@ -16,8 +17,9 @@ use std::alloc::Global;
 use std::marker::Model;
 
 /// The memory of a guest: the regions of an image and eight stacks, changed in place. Contracts see it as
-/// its blocks, and through `cells_of` as the byte and the rights at each address. No call but `load` takes
-/// memory, and none changes what may be read or written. Addresses wrap at 2^32.
+/// its blocks, and through `cells_of` as the byte and the rights at each address. A store says what it did to
+/// the memory before it; by the law `law::writes_chain` the memory is what all stores so far left. No call but
+/// `load` takes memory, and none changes what may be read or written. Addresses wrap at 2^32.
 #[derive(Debug, Drop)]
 pub struct GuestMem {
     blocks: Vec<Buffer>,
@@ -50,8 +52,8 @@ impl GuestMem {
 
     /// The byte at an address: the newest one written there. None exactly outside all regions and stacks.
     pub fn byte(&self, address: u32) -> Option<u8>
-        ensures byte { result ≡ option_map (λ cell. cell.byte) (cells_of self.now address) }
-        ensures newest { (before : Cells) (writes : List Write) → Stands before writes (cells_of self.now) → result ≡ option_map (λ cell. cell.byte) (cells_after before writes address) }
+        ensures byte { result ≡ byte_of (cells_of self.now) address }
+        ensures newest { (before : Cells) (writes : List Write) → Stands before writes (cells_of self.now) → result ≡ byte_of (cells_after before writes) address }
     {
         let cell = cell(self.blocks.as_slice(), address)?;
         Some(cell.byte)
@@ -73,7 +75,7 @@ impl GuestMem {
 
     /// Whether an address is a multiple of four and its four bytes may be read and written.
     pub fn can_amo(&self, address: u32) -> bool
-        ensures { result ≡ (nat_eq (address % 4) 0 && (all_readable (cells_of self.now) address 4 && all_writable (cells_of self.now) address 4)) }
+        ensures { result ≡ may_amo (cells_of self.now) address }
     {
         address % 4 == 0 && self.readable(address, 4) && self.writable(address, 4)
     }
@@ -81,7 +83,7 @@ impl GuestMem {
     /// The number that the bytes at an address spell, the lowest first. None exactly where one of them may
     /// not be read.
     pub fn get(&self, address: u32, width: Width) -> Option<u32>
-        ensures value { result ≡ option_map number_of (load_bytes (cells_of self.now) address (size_of width)) }
+        ensures value { result ≡ number_at (cells_of self.now) address (size_of width) }
         ensures small { IfSome result (λ value. value < 2 ^ (8 * size_of width)) }
     {
         get(self.blocks.as_slice(), address, width)

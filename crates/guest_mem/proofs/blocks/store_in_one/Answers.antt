@@ -1,8 +1,15 @@
-use Rattle.std.proofs.Common.{length, get_or}
-use Rattle.guest_mem.proofs.BlockLemmas.{AllPairs-in, Stands-in, AreWritable-in, fits_in, whole}
+use Rattle.std.proofs.Common.{length}
+use Rattle.guest_mem.proofs.BlockLemmas.{AllPairs-in, Stands-in, AreWritable-at, fits_in}
 use Rattle.guest_mem.proofs.Spans.{all_writable-within}
 use Rattle.guest_mem.specs.Blocks.{cells_of}
 use Rattle.guest_mem.proofs.blocks.store_in_one.Goals as goal
+
+pub returns-then-writable_from-bytes-clause-short : goal.returns-then-writable_from-bytes-clause-short
+returns-then-writable_from-bytes-clause-short c = record {
+  run = c.writable_from.result;
+  fits = AreWritable-at c.args.blocks.now c.in-Some.place c.args.address c.index-blocks-place.result c.writable_from.result c.requires c.in-Some.ensures.found c.writable_from.ensures.below c.writable_from.ensures.count;
+  short = c.if-writable_from-bytes.true;
+}
 
 pub returns-clause-apart : goal.returns-clause-apart
 returns-clause-apart c =
@@ -12,12 +19,8 @@ returns-clause-apart c =
 
 pub returns-clause-allowed : goal.returns-clause-allowed
 returns-clause-allowed c =
-    let blocks = c.args.blocks.now in
-    let place = c.in-Some.place in
-    let found = c.in-Some.ensures.found in
-    let block = get_or blocks place c.index-blocks-place.result in
-    let run = AreWritable-in blocks place c.args.address block c.writable_from.result c.requires found (whole blocks place c.args.address c.index-blocks-place.result found) c.writable_from.ensures.below c.writable_from.ensures.count in
-    all_writable-within (cells_of blocks) c.args.address (length c.args.bytes.now) c.writable_from.result run c.if-writable_from-bytes.false
+    let run = AreWritable-at c.args.blocks.now c.in-Some.place c.args.address c.index-blocks-place.result c.writable_from.result c.requires c.in-Some.ensures.found c.writable_from.ensures.below c.writable_from.ensures.count in
+    all_writable-within (cells_of c.args.blocks.now) c.args.address (length c.args.bytes.now) c.writable_from.result run c.if-writable_from-bytes.false
 
 pub returns-clause-stored : goal.returns-clause-stored
 returns-clause-stored c =
