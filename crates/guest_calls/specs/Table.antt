@@ -9,7 +9,7 @@ use Rattle.rv_model.specs.declared.hearing.Access.{Access}
 use Rattle.rv_model.specs.declared.hearing.Reach.{Reach}
 use Rattle.rv_model.specs.declared.hearing.Kind.{Kind}
 use Rattle.rv_model.specs.declared.hearing.Asked.{Asked}
-use Rattle.rv_model.specs.Calls.{number_of_call, first_argument, second_argument, fits_buffer, kind_by, asked_of, made, end_value}
+use Rattle.rv_model.specs.Calls.{number_of_call, first_argument, second_argument, fits_buffer, kind_by, asked_of, reply_to, record_of, made, end_value}
 use Rattle.rv_model.specs.Instruction.{no_access}
 use Rattle.rv_model.specs.Step.{reach_of}
 use Rattle.guest_calls.specs.declared.call.CallArgs.{CallArgs}
@@ -34,6 +34,10 @@ kind_in cells args = kind_met args (reach_of cells (buffer_in args))
 abbrev pub asked_in_memory : Cells → CallArgs → Option Asked
 asked_in_memory cells args = asked_of (kind_in cells args)
 
+-- the record of the call that a thread makes
+abbrev pub note_for : Calls → Cells → ℕ → CallArgs → Call
+note_for calls cells thread args = record_of (kind_in cells args) (reply_to calls thread (asked_in_memory cells args))
+
 -- a thread that was made and has not ended
 abbrev pub IsLive : Calls → ℕ → Type 0
 IsLive calls thread = (thread < made calls) × (end_value calls thread ≡ None)
@@ -49,3 +53,8 @@ after_of a1 other = after.Goes
 abbrev pub HasBuffer : Cells → ℕ → Call → Type 0
 HasBuffer cells address (call.Read want bytes) = all_writable cells address (length bytes) ≡ true
 HasBuffer cells address other = Unit {0}
+
+-- one more thread may be made where the call makes one
+abbrev pub HasRoom : Calls → Call → Type 0
+HasRoom calls (call.Spawn entry (Some child)) = made calls < 8
+HasRoom calls other = Unit {0}

@@ -2,8 +2,9 @@
 //! No call but the caller's own allocations takes memory: the bytes of a call are kept in place.
 #![tactic(auto)]
 
+mod answers;
 pub mod call;
-//pub mod call_state;
+pub mod call_state;
 mod end_values;
 pub mod note;
 pub mod piece;
