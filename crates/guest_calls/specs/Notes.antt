@@ -1,4 +1,5 @@
 -- A note of a call as the record of that call: the same call, whose bytes are the same.
+use Rattle.std.specs.Prelude.{◌≤◌, length}
 use Rattle.odr_log.specs.declared.log.Call.{Call}
 use Rattle.odr_log.specs.declared.log.Call.TheVariants as call
 use Rattle.guest_calls.specs.declared.note.CallNote.{CallNote}
@@ -19,3 +20,9 @@ call_of note.ReadBad = call.ReadBad
 call_of note.SelfId = call.SelfId
 call_of note.Yield = call.Yield
 call_of (note.Unknown number) = call.Unknown number
+
+-- at most 256 bytes go through a call
+abbrev pub HasFewBytes : Call → Type 0
+HasFewBytes (call.Write bytes) = length bytes ≤ 256
+HasFewBytes (call.Read want bytes) = length bytes ≤ 256
+HasFewBytes other = Unit {0}

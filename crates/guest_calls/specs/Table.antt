@@ -1,5 +1,5 @@
 -- A call by its arguments alone, in a memory, in the terms of the model's table of calls.
-use Rattle.std.specs.Prelude.{◌≡◌, ℕ, ◌<◌, Bool, true, ◌&&◌, ◌||◌, length, nat_eq, Option, Some, None, if◌then◌else◌}
+use Rattle.std.specs.Prelude.{◌≡◌, ℕ, ◌<◌, Bool, true, ◌&&◌, ◌||◌, length, nat_eq, nat_lt, Option, Some, is_none, if◌then◌else◌}
 use Rattle.elf_image.specs.Memory.{Cells, all_writable}
 use Rattle.odr_log.specs.declared.log.Call.{Call}
 use Rattle.odr_log.specs.declared.log.Call.TheVariants as call
@@ -39,8 +39,8 @@ abbrev pub note_for : Calls → Cells → ℕ → CallArgs → Call
 note_for calls cells thread args = record_of (kind_in cells args) (reply_to calls thread (asked_in_memory cells args))
 
 -- a thread that was made and has not ended
-abbrev pub IsLive : Calls → ℕ → Type 0
-IsLive calls thread = (thread < made calls) × (end_value calls thread ≡ None)
+abbrev pub is_live : Calls → ℕ → Bool
+is_live calls thread = nat_lt thread (made calls) && is_none (end_value calls thread)
 
 -- what the caller's thread, or the machine, does after a call with this second argument
 abbrev pub after_of : ℕ → Call → After

@@ -1,15 +1,15 @@
-ghost use Rattle.std.specs.Prelude.{ℕ, ◌≡◌, ◌≤◌, ◌<◌, ◌%◌, ◌&&◌, [], ◌∷◌, length, take, replicate, nat_eq, nat_lt, slice_set, Some, None, false, IsTrue, if◌then◌else◌};
-
+ghost use Rattle.std.specs.Prelude.{◌≡◌, ◌<◌, ◌≤◌, ◌∷◌, [], ℕ, replicate, slice_set, Some, None, is_some, IsTrue, IsFalse};
+ghost use Rattle.std.specs.List.{list_all};
 ghost use Rattle.rv_model.specs.declared.hearing.Reach.{Reach};
 ghost use Rattle.rv_model.specs.declared.hearing.Asked.TheVariants as asked;
 ghost use Rattle.rv_model.specs.Instruction.{call_writes};
-ghost use Rattle.rv_model.specs.Calls.{made, end_value, owner_of, is_mutex, fits_buffer, writing, zero_if, asked_of, waits, reply_to, join_value, record_of, answer_of, calls_after};
+ghost use Rattle.rv_model.specs.Calls.{made, end_value, owner_of, asked_of, waits, reply_to, join_value, answer_of, calls_after};
 ghost use Rattle.guest_mem.specs.Blocks.{cells_of};
 ghost use Rattle.guest_calls.specs.Notes.{call_of};
-ghost use Rattle.guest_calls.specs.Table.{kind_met, kind_in, asked_in_memory, note_for, IsLive, after_of, HasBuffer, HasRoom};
+ghost use Rattle.guest_calls.specs.Table.{kind_met, asked_in_memory, note_for, is_live, after_of, HasBuffer, HasRoom};
 ghost use Rattle.elf_image.specs.Memory.{Stands};
 
-use crate::answers::{answer_of, after_of, bytes_at, fill_buffer};
+use crate::answers::{after_of, answer_of, bytes_at, fill_buffer};
 use crate::call::{After, CallArgs, CallDone};
 use crate::end_values::EndValues;
 use crate::note::CallNote;
@@ -48,15 +48,37 @@ impl CallState {
         }
     }
 
-    /// The value with which a thread ended.
-    fn end_value(&self, thread: u32) -> Option<u32>
+    /// The number of threads that were made, eight at most.
+    pub fn made(&self) -> u8
+        ensures value { result ≡ made self.now }
+        ensures few { result ≤ 8 }
+    {
+        self.ended.len() as u8
+    }
+
+    /// Whether every thread has ended.
+    pub fn all_ended(&self) -> bool
+        ensures { result ≡ list_all is_some self.now.ended }
+    {
+        self.ended.all()
+    }
+
+    /// Whether a thread was made and has not ended.
+    pub fn is_live(&self, tid: u8) -> bool
+        ensures { result ≡ is_live self.now tid }
+    {
+        (tid as usize) < self.ended.len() && self.end_value(u32::from(tid)).is_none()
+    }
+
+    /// The value with which a thread ended, none for one that has not ended or was not made.
+    pub fn end_value(&self, thread: u32) -> Option<u32>
         ensures { result ≡ end_value self.now thread }
     {
         self.ended.of(thread)
     }
 
-    /// The thread that holds a mutex.
-    fn owner_of(&self, mutex: u32) -> Option<u8>
+    /// The thread that holds a mutex, none for one that is free or is no mutex.
+    pub fn owner_of(&self, mutex: u32) -> Option<u8>
         ensures { result ≡ owner_of self.now mutex }
     {
         self.owners.get(mutex as usize).copied().flatten()
@@ -194,8 +216,8 @@ impl CallState {
 
     /// Does the call of a thread that has not ended and is not blocked.
     pub fn apply(&mut self, tid: u8, args: CallArgs, mem: &mut GuestMem) -> CallDone
-        requires live { IsLive self.old tid }
-        requires unblocked { waits self.old tid (asked_in_memory (cells_of mem.old) args) ≡ false }
+        requires live { IsTrue (is_live self.old tid) }
+        requires unblocked { IsFalse (waits self.old tid (asked_in_memory (cells_of mem.old) args)) }
         ensures note { call_of result.note ≡ note_for self.old (cells_of mem.old) tid args }
         ensures answer { result.a0 ≡ answer_of tid (join_value self.old (asked_in_memory (cells_of mem.old) args)) (call_of result.note) args.a0 }
         ensures shared { self.new ≡ calls_after self.old tid args.a0 (call_of result.note) }
@@ -223,7 +245,8 @@ impl CallState {
 
     /// The shared state goes on by a call with this note; an ending thread ends with its a0.
     fn go_on(&mut self, tid: u8, a0: u32, note: &CallNote)
-        requires { HasRoom self.old (call_of note.now) }
+        requires made { tid < made self.old }
+        requires room { HasRoom self.old (call_of note.now) }
         ensures { self.new ≡ calls_after self.old tid a0 (call_of note.now) }
     {
         match note {

@@ -1,4 +1,5 @@
-ghost use Rattle.std.specs.Prelude.{◌≡◌, ◌≤◌, ◌<◌, [], ◌∷◌, ◌++◌, length, slice_set, slice_index_or, Some, None};
+ghost use Rattle.std.specs.Prelude.{◌≡◌, ◌≤◌, ◌<◌, [], ◌∷◌, ◌++◌, length, slice_set, slice_index_or, Some, None, is_some};
+ghost use Rattle.std.specs.List.{list_all};
 
 use smallvec::SmallVec;
 use std::alloc::Global;
@@ -52,13 +53,19 @@ impl EndValues {
         self.values.get(thread as usize).copied().flatten()
     }
 
+    /// Whether every thread has ended.
+    pub fn all(&self) -> bool
+        ensures { result ≡ list_all is_some self.now }
+    {
+        self.values.as_slice().iter().all(|value| value.is_some())
+    }
+
     /// A thread ends with this value.
     pub fn set(&mut self, thread: u8, value: u32)
+        requires { thread < length self.old }
         ensures { self.new ≡ slice_set self.old thread (Some value) }
     {
-        if (thread as usize) < self.values.len() {
-            self.values[thread as usize] = Some(value);
-        }
+        self.values[thread as usize] = Some(value);
     }
 
     /// One more thread is made.

@@ -1,5 +1,5 @@
 ghost use Rattle.std.specs.Prelude.{◌≡◌, ◌↔◌, IsTrue, IfOk};
-ghost use Rattle.guest_calls.specs.Notes.{call_of};
+ghost use Rattle.guest_calls.specs.Notes.{call_of, HasFewBytes};
 
 use crate::piece::Piece;
 use odr_list::bytes::Bytes;
@@ -34,7 +34,8 @@ impl CallNote {
     ///
     /// `Memory` alone.
     pub fn to_call(&self, alloc: Global) -> Result<Call, Memory>
-        ensures { IfOk result (λ call. call ≡ call_of self.now) }
+        ensures value { IfOk result (λ call. call ≡ call_of self.now) }
+        ensures few { IfOk result (λ call. HasFewBytes call) }
     {
         Ok(match self {
             CallNote::Exit { code } => Call::Exit { code: *code },
