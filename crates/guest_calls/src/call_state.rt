@@ -1,5 +1,6 @@
 ghost use Rattle.std.specs.Prelude.{◌≡◌, ◌<◌, ◌≤◌, ◌∷◌, [], ℕ, replicate, slice_set, Some, None, is_some, IsTrue, IsFalse};
 ghost use Rattle.std.specs.List.{list_all};
+ghost use Rattle.elf_image.specs.Memory.{Stands};
 ghost use Rattle.rv_model.specs.declared.hearing.Reach.{Reach};
 ghost use Rattle.rv_model.specs.declared.hearing.Asked.TheVariants as asked;
 ghost use Rattle.rv_model.specs.Instruction.{call_writes};
@@ -7,13 +8,12 @@ ghost use Rattle.rv_model.specs.Calls.{made, end_value, owner_of, asked_of, wait
 ghost use Rattle.guest_mem.specs.Blocks.{cells_of};
 ghost use Rattle.guest_calls.specs.Notes.{call_of};
 ghost use Rattle.guest_calls.specs.Table.{kind_met, asked_in_memory, note_for, is_live, after_of, HasBuffer, HasRoom};
-ghost use Rattle.elf_image.specs.Memory.{Stands};
 
 use crate::answers::{after_of, answer_of, bytes_at, fill_buffer};
 use crate::call::{After, CallArgs, CallDone};
 use crate::end_values::EndValues;
 use crate::note::CallNote;
-use crate::piece::Piece;
+use crate::piece::{MOST, Piece};
 use crate::tape::Tape;
 use guest_mem::guest_memory::GuestMem;
 use std::alloc::Global;
@@ -84,6 +84,37 @@ impl CallState {
         self.owners.get(mutex as usize).copied().flatten()
     }
 
+    /// Whether a thread whose next instruction makes this call is blocked: it joins another thread that has
+    /// not ended, or locks a mutex that another thread holds. What the call's buffer meets decides nothing.
+    pub fn blocked(&self, tid: u8, args: CallArgs) -> bool
+        ensures { (reach : Reach) → result ≡ waits self.now tid (asked_of (kind_met args reach)) }
+    {
+        match args.number {
+            4 => self.join_waits(tid, args.a0),
+            5 => self.lock_waits(tid, args.a0),
+            _ => false,
+        }
+    }
+
+    /// Does the call of a thread that has not ended and is not blocked, as the table of calls has it. The
+    /// memory stays as it was but for the buffer of a read.
+    pub fn apply(&mut self, tid: u8, args: CallArgs, mem: &mut GuestMem) -> CallDone
+        requires live { IsTrue (is_live self.old tid) }
+        requires unblocked { IsFalse (waits self.old tid (asked_in_memory (cells_of mem.old) args)) }
+        ensures note { call_of result.note ≡ note_for self.old (cells_of mem.old) tid args }
+        ensures answer { result.a0 ≡ answer_of tid (join_value self.old (asked_in_memory (cells_of mem.old) args)) (call_of result.note) args.a0 }
+        ensures shared { self.new ≡ calls_after self.old tid args.a0 (call_of result.note) }
+        ensures memory { Stands (cells_of mem.old) (call_writes args.a0 (call_of result.note)) (cells_of mem.new) }
+        ensures after { result.after ≡ after_of args.a1 (call_of result.note) }
+    {
+        let note = self.note(tid, args, mem);
+        let a0 = answer_of(tid, self.join_value(args), &note, args.a0);
+        let after = after_of(args.a1, &note);
+        self.go_on(tid, args.a0, &note);
+        fill_buffer(mem, args.a0, &note);
+        CallDone { a0, note, after }
+    }
+
     /// Whether a thread that joins another one waits.
     fn join_waits(&self, tid: u8, target: u32) -> bool
         ensures { result ≡ waits self.now tid (Some (asked.Join target)) }
@@ -97,18 +128,6 @@ impl CallState {
         ensures { result ≡ waits self.now tid (Some (asked.Lock mutex)) }
     {
         mutex < 32 && self.owner_of(mutex).is_some_and(|owner| owner != tid)
-    }
-
-    /// Whether a thread whose next instruction makes this call is blocked: it joins another thread that has
-    /// not ended, or locks a mutex that another thread holds. What the call's buffer meets decides nothing.
-    pub fn blocked(&self, tid: u8, args: CallArgs) -> bool
-        ensures { (reach : Reach) → result ≡ waits self.now tid (asked_of (kind_met args reach)) }
-    {
-        match args.number {
-            4 => self.join_waits(tid, args.a0),
-            5 => self.lock_waits(tid, args.a0),
-            _ => false,
-        }
     }
 
     /// The number of the thread that a spawn makes, none where it is misused.
@@ -151,7 +170,7 @@ impl CallState {
         ensures room { HasRoom self.now (call_of result) }
         ensures buffer { HasBuffer (cells_of mem.now) args.a0 (call_of result) }
     {
-        if args.a1 > 256 {
+        if args.a1 as usize > MOST {
             return CallNote::WriteBad;
         }
         match bytes_at(self.ended.alloc(), mem, args.a0, args.a1) {
@@ -167,7 +186,7 @@ impl CallState {
         ensures room { HasRoom self.now (call_of result) }
         ensures buffer { HasBuffer (cells_of mem.now) args.a0 (call_of result) }
     {
-        if args.a1 > 256 || !mem.writable(args.a0, args.a1) {
+        if args.a1 as usize > MOST || !mem.writable(args.a0, args.a1) {
             return CallNote::ReadBad;
         }
         CallNote::Read {
@@ -212,24 +231,6 @@ impl CallState {
             11 => CallNote::Yield,
             number => CallNote::Unknown { number },
         }
-    }
-
-    /// Does the call of a thread that has not ended and is not blocked.
-    pub fn apply(&mut self, tid: u8, args: CallArgs, mem: &mut GuestMem) -> CallDone
-        requires live { IsTrue (is_live self.old tid) }
-        requires unblocked { IsFalse (waits self.old tid (asked_in_memory (cells_of mem.old) args)) }
-        ensures note { call_of result.note ≡ note_for self.old (cells_of mem.old) tid args }
-        ensures answer { result.a0 ≡ answer_of tid (join_value self.old (asked_in_memory (cells_of mem.old) args)) (call_of result.note) args.a0 }
-        ensures shared { self.new ≡ calls_after self.old tid args.a0 (call_of result.note) }
-        ensures memory { Stands (cells_of mem.old) (call_writes args.a0 (call_of result.note)) (cells_of mem.new) }
-        ensures after { result.after ≡ after_of args.a1 (call_of result.note) }
-    {
-        let note = self.note(tid, args, mem);
-        let a0 = answer_of(tid, self.join_value(args), &note, args.a0);
-        let after = after_of(args.a1, &note);
-        self.go_on(tid, args.a0, &note);
-        fill_buffer(mem, args.a0, &note);
-        CallDone { a0, note, after }
     }
 
     /// The value that a join hands on, 0 for another call.

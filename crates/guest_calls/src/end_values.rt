@@ -34,6 +34,7 @@ impl EndValues {
         EndValues { values }
     }
 
+    /// The allocator, which is never asked for memory.
     pub fn alloc(&self) -> Global {
         *self.values.allocator()
     }
