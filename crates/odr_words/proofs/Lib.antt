@@ -1,0 +1,5 @@
+pub mod NumberLemmas
+pub mod WordLemmas
+pub mod OptionLemmas
+pub mod GivenLemmas
+pub mod JobLemmas

@@ -1,0 +1,4 @@
+pub mod Arguments
+pub mod Jobs
+pub mod Numbers
+pub mod Read

@@ -1,0 +1,15 @@
+//! The words of a command line, read as the job that they are.
+#![tactic(auto)]
+
+mod command;
+pub mod fault;
+mod given;
+pub mod job;
+mod making;
+mod number;
+mod options;
+mod positionals;
+mod read;
+mod word;
+
+pub use read::read_words;

@@ -1,0 +1,163 @@
+ghost use Rattle.std.specs.Prelude.{◌≡◌, IfOk, option_map};
+ghost use Rattle.odr_words.specs.Jobs.{job_with};
+ghost use Rattle.odr_words.specs.Read.{seen_positionals, seen_values, value_in, Reads};
+
+use crate::command::Command;
+use crate::fault::WordsFault;
+use crate::given::Given;
+use crate::job::{Job, WordText};
+use crate::number::{number_in, number_or};
+use crate::options::OptionValues;
+use crate::positionals::Positionals;
+use odr_list::memory::Memory;
+use std::alloc::Global;
+
+/// A copy of a text that may be absent.
+fn copy_of(alloc: Global, text: Option<&str>) -> Result<Option<WordText>, Memory>
+    ensures { IfOk result (λ copy. copy ≡ option_map (λ t. t.now) text.entry) }
+{
+    match text {
+        None => Ok(None),
+        Some(text) => Ok(Some(WordText::from_str(alloc, text)?)),
+    }
+}
+
+fn record(
+    alloc: Global,
+    words: Positionals<'_>,
+    options: OptionValues<'_>,
+) -> Result<Job, WordsFault>
+    ensures { Reads (job_with Command.Record (seen_positionals words.entry) (value_in (seen_values options.entry))) result }
+{
+    let Positionals::Two(elf, log) = words else {
+        return Err(WordsFault::Bad);
+    };
+    let Some(seed) = number_or(42, 0, u64::MAX, options.seed) else {
+        return Err(WordsFault::Bad);
+    };
+    let Some(limit) = number_or(100_000, 1, 250_000, options.limit) else {
+        return Err(WordsFault::Bad);
+    };
+    Ok(Job::Record {
+        elf: WordText::from_str(alloc, elf)?,
+        log: WordText::from_str(alloc, log)?,
+        seed,
+        limit: limit as u32,
+        input: copy_of(alloc, options.input)?,
+    })
+}
+
+fn infer(
+    alloc: Global,
+    words: Positionals<'_>,
+    options: OptionValues<'_>,
+) -> Result<Job, WordsFault>
+    ensures { Reads (job_with Command.Infer (seen_positionals words.entry) (value_in (seen_values options.entry))) result }
+{
+    let Positionals::Three(elf, log, out) = words else {
+        return Err(WordsFault::Bad);
+    };
+    let Some(steps) = number_or(20_000, 1, 1_000_000_000, options.steps) else {
+        return Err(WordsFault::Bad);
+    };
+    Ok(Job::Infer {
+        elf: WordText::from_str(alloc, elf)?,
+        log: WordText::from_str(alloc, log)?,
+        out: WordText::from_str(alloc, out)?,
+        steps,
+    })
+}
+
+fn check(
+    alloc: Global,
+    words: Positionals<'_>,
+    options: OptionValues<'_>,
+) -> Result<Job, WordsFault>
+    ensures { Reads (job_with Command.Check (seen_positionals words.entry) (value_in (seen_values options.entry))) result }
+{
+    let Positionals::Three(elf, log, cert) = words else {
+        return Err(WordsFault::Bad);
+    };
+    Ok(Job::Check {
+        elf: WordText::from_str(alloc, elf)?,
+        log: WordText::from_str(alloc, log)?,
+        cert: WordText::from_str(alloc, cert)?,
+    })
+}
+
+fn replay(
+    alloc: Global,
+    words: Positionals<'_>,
+    options: OptionValues<'_>,
+) -> Result<Job, WordsFault>
+    ensures { Reads (job_with Command.Replay (seen_positionals words.entry) (value_in (seen_values options.entry))) result }
+{
+    let Positionals::Three(elf, log, sched) = words else {
+        return Err(WordsFault::Bad);
+    };
+    Ok(Job::Replay {
+        elf: WordText::from_str(alloc, elf)?,
+        log: WordText::from_str(alloc, log)?,
+        sched: WordText::from_str(alloc, sched)?,
+    })
+}
+
+fn debug(
+    alloc: Global,
+    words: Positionals<'_>,
+    options: OptionValues<'_>,
+) -> Result<Job, WordsFault>
+    ensures { Reads (job_with Command.Debug (seen_positionals words.entry) (value_in (seen_values options.entry))) result }
+{
+    let Positionals::Three(elf, log, sched) = words else {
+        return Err(WordsFault::Bad);
+    };
+    Ok(Job::Debug {
+        elf: WordText::from_str(alloc, elf)?,
+        log: WordText::from_str(alloc, log)?,
+        sched: WordText::from_str(alloc, sched)?,
+    })
+}
+
+fn asm(alloc: Global, words: Positionals<'_>, options: OptionValues<'_>) -> Result<Job, WordsFault>
+    ensures { Reads (job_with Command.Asm (seen_positionals words.entry) (value_in (seen_values options.entry))) result }
+{
+    let Positionals::Two(text, elf) = words else {
+        return Err(WordsFault::Bad);
+    };
+    Ok(Job::Asm {
+        text: WordText::from_str(alloc, text)?,
+        elf: WordText::from_str(alloc, elf)?,
+    })
+}
+
+fn demo(words: Positionals<'_>, options: OptionValues<'_>) -> Result<Job, WordsFault>
+    ensures { Reads (job_with Command.Demo (seen_positionals words.entry) (value_in (seen_values options.entry))) result }
+{
+    let Positionals::One(number) = words else {
+        return Err(WordsFault::Bad);
+    };
+    match number_in(number, 0, 40) {
+        Some(number) => Ok(Job::Demo {
+            number: number as u32,
+        }),
+        None => Err(WordsFault::Bad),
+    }
+}
+
+/// The job of a command with what was given after it.
+pub fn job_with(alloc: Global, command: Command, given: &Given<'_>) -> Result<Job, WordsFault>
+    ensures { Reads (job_with command (seen_positionals given.now.positionals) (value_in (seen_values given.now.options))) result }
+{
+    let words = given.positionals;
+    let options = given.options;
+    match command {
+        Command::Record => record(alloc, words, options),
+        Command::Infer => infer(alloc, words, options),
+        Command::Check => check(alloc, words, options),
+        Command::Replay => replay(alloc, words, options),
+        Command::Debug => debug(alloc, words, options),
+        Command::Asm => asm(alloc, words, options),
+        Command::Demo => demo(words, options),
+    }
+}
