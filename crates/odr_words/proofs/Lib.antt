@@ -3,3 +3,4 @@ pub mod WordLemmas
 pub mod OptionLemmas
 pub mod GivenLemmas
 pub mod JobLemmas
+pub mod WalkLemmas

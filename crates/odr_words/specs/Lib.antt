@@ -2,3 +2,4 @@ pub mod Arguments
 pub mod Jobs
 pub mod Numbers
 pub mod Read
+pub mod Split

@@ -10,6 +10,7 @@ mod number;
 mod options;
 mod positionals;
 mod read;
+mod split;
 mod word;
 
 pub use read::read_words;
