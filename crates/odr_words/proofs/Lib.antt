@@ -4,3 +4,4 @@ pub mod OptionLemmas
 pub mod GivenLemmas
 pub mod JobLemmas
 pub mod WalkLemmas
+pub mod SplitLemmas

@@ -121,29 +121,26 @@ takes-twice c name value before after e =
 
 -- ---- the values of one more
 
-first_or : Option Text → Option Text → Option Text
+abbrev pub first_or : Option Text → Option Text → Option Text
 first_or None after = after
 first_or (Some value) after = Some value
 
 first_or-none : (found : Option Text) → first_or found None ≡ found
-unfolding first_or
 first_or-none None = refl
 first_or-none (Some value) = refl
 
 value-step : (tie : Bool) (here : Text) (rest rest' after : Option Text) → rest ≡ first_or rest' after
     → cond tie (Some here) rest ≡ first_or (cond tie (Some here) rest') after
-unfolding first_or
 value-step true here rest rest' after e = refl
 value-step false here rest rest' after e = e
 
-value_of-append : (asked name value : Text) (before : Options)
+pub value_of-append : (asked name value : Text) (before : Options)
     → value_of asked (before ++ (name, value) ∷ []) ≡ first_or (value_of asked before) (cond (bytes_eq asked name) (Some value) None)
-unfolding first_or
 value_of-append asked name value [] = refl
 value_of-append asked name value (option ∷ before) =
     value-step (bytes_eq asked option.0) option.1 _ _ _ (value_of-append asked name value before)
 
-has_name-value : (name : Text) (before : Options) → has_name name before ≡ is_some (value_of name before)
+pub has_name-value : (name : Text) (before : Options) → has_name name before ≡ is_some (value_of name before)
 has_name-value name [] = refl
 has_name-value name (option ∷ before) = has_step (bytes_eq name option.0) option.1 _ _ (has_name-value name before)
 
@@ -160,7 +157,6 @@ kept-other asked name value before held e other =
 
 kept-named : (name value : Text) (before : Options) → value_of name before ≡ None → bytes_eq name name ≡ true
     → value_of name (before ++ (name, value) ∷ []) ≡ Some value
-unfolding first_or
 kept-named name value before e same = value_of-append name name value before ∙ rw (e, same) refl
 
 given-before : (name : Text) (before : Options) (held : Option Text) → value_of name before ≡ held → has_name name before ≡ is_some held
