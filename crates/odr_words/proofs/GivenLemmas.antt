@@ -30,7 +30,7 @@ joined-option words options name value (Some a) =
 
 -- ---- no job
 
-no_four : (c : Command) (first second third fourth : Text) (more : List Text) (value : Text → Option Text)
+pub no_four : (c : Command) (first second third fourth : Text) (more : List Text) (value : Text → Option Text)
     → job_with c (first ∷ second ∷ third ∷ fourth ∷ more) value ≡ None
 no_four command.Record first second third fourth more value = refl
 no_four command.Infer first second third fourth more value = refl

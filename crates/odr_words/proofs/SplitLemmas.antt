@@ -1,20 +1,31 @@
 -- The rows that clap finds are the positional words and the options of the words.
-use Rattle.std.proofs.Common.{◌≡◌, ◌==◌, ◌+◌, ◌<◌, ◌≤◌, ◌++◌, ◌&&◌, ◌||◌, ◌⊎◌, inl, inr, ℕ, zero, suc, Bool, true, false, not, cond, List, [], ◌∷◌, length, map, take, drop, codes, Option, Some, None, is_some, option_map, option_and_then, refl, sym, ap, ap₂, ◌∙◌, subst, arith, tests, rules}
+use Rattle.std.proofs.Common.{◌≡◌, ◌==◌, ◌+◌, ◌<◌, ◌≤◌, ◌++◌, ◌&&◌, ◌||◌, ◌⊎◌, inl, inr, ℕ, zero, suc, Bool, true, false, not, cond, List, [], ◌∷◌, length, map, take, drop, String, Global, codes, Option, Some, None, is_some, option_map, option_and_then, refl, sym, ap, ap₂, ◌∙◌, subst, arith, tests, rules}
 use Rattle.std.specs.Prelude.{slice_get, nat_eq}
 use Rattle.std.specs.Str.{bytes_eq}
 use Rattle.std.specs.Cmp.Lexicographic.{same_text}
 use Rattle.std.specs.List.{fold, list_any, before_first, after_first, position_or_len, starts_with}
-use Rattle.std.proofs.lemmas.List.{append_assoc, append-nil, length-append}
+use Rattle.std.specs.String.{string_bytes}
+use Rattle.std.proofs.lemmas.List.{drop-map, append_assoc, append-nil, length-append}
 use Rattle.clap.specs.Lexer.{long_of}
-use Rattle.clap.specs.Walk.{Walk, walked, first_of}
-use Rattle.clap.specs.Takes.{walk_passes}
+use Rattle.clap.specs.Walk.{Row, Rule, Walk, walk_from, walked, nothing_held, settled_rows, first_of, has_row, with_default}
+use Rattle.clap.specs.Simple.{built, matches_of}
+use Rattle.clap.specs.Takes.{walk_passes, level_passes}
+use Rattle.clap.specs.Takes.{takes as clap_takes}
+use Rattle.clap.proofs.TakesLemmas.{leaf_takes}
+use Rattle.clap.proofs.WalkLemmas.{first_value-rows}
+use Rattle.clap.specs.Matches.{first_value}
+use Rattle.clap.specs.Walk.{rows_of}
+use Rattle.clap.specs.declared.parser.matches.Found.{Found as Matches}
+use Rattle.odr_words.specs.Split.{words_app}
 use Rattle.odr_words.specs.Arguments.{Text, Options, Arguments, Word, Plain, Name, NameValue, Neither, is_plain, is_equals_sign, with_value, option_of, word_of, arguments_of, with_positional, with_option, value_of, has_name}
-use Rattle.odr_words.specs.Jobs.{options_of, takes}
-use Rattle.odr_words.specs.Read.{pending}
+use Rattle.odr_words.specs.Jobs.{options_of, takes, job_with, job_given}
+use Rattle.odr_words.specs.Read.{Values, pending, words_at, job_after, value_in}
 use Rattle.odr_words.specs.declared.command.Command.{Command}
 use Rattle.odr_words.specs.declared.command.Command.TheVariants as command
+use Rattle.odr_words.proofs.GivenLemmas.{no_four}
+use Rattle.odr_words.proofs.JobLemmas.{given-whole}
 use Rattle.odr_words.proofs.OptionLemmas.{pick, takes-unknown, takes-twice, first_or, value_of-append, has_name-value}
-use Rattle.odr_words.proofs.WalkLemmas.{the_shape, the_rules, row, Idle, Waits, IsOption, Seed, Limit, Steps, Input, turn_is_fine, place-step, named-step, value-step, joined-step}
+use Rattle.odr_words.proofs.WalkLemmas.{the_shape, the_rules, row, first_of-row, Idle, Waits, IsOption, Seed, Limit, Steps, Input, turn_is_fine, place-step, named-step, value-step, joined-step}
 
 -- ---- tests
 
@@ -386,3 +397,143 @@ goes c all_words all_options few t [] None w words options a stands e p o = endi
 goes c all_words all_options few t [] (Some name) w words options a stands e p o = cc
 goes c all_words all_options few t (word ∷ rest) awaiting w words options a stands e p o =
     turn c all_words all_options word rest awaiting few t (kind_of word) (goes c all_words all_options few t rest) w words options a stands e p o
+
+-- ---- what clap finds
+
+NoDefaults : List Rule → Type 0
+NoDefaults [] = Unit {0}
+NoDefaults (a ∷ rules) = (a.defaults ≡ []) × NoDefaults rules
+
+either_way : {X : Type 0} (b : Bool) (x : X) → cond b x x ≡ x
+either_way true x = refl
+either_way false x = refl
+
+finished-same : (rules : List Rule) (rows : List Row) → NoDefaults rules → fold with_default rows rules ≡ rows
+unfolding NoDefaults
+finished-same [] rows d = refl
+finished-same (a ∷ rules) rows d = rw (d.0, either_way (has_row a.id rows) rows) (finished-same rules rows d.1)
+
+no_defaults : NoDefaults the_rules
+unfolding NoDefaults
+no_defaults = (refl, (refl, (refl, (refl, (refl, (refl, (refl, tt)))))))
+
+-- the walk begins with nothing
+at_start : StandsAt (walk_from nothing_held) [] [] None
+at_start = ([], record { rows = []; pending = None; place = refl; held = refl; passes = refl }, record {
+  first = refl; second = refl; third = refl; seed = refl; limit = refl; steps = refl; input = refl;
+})
+
+-- the command takes the words of a job, and finds their positional words and options
+pub record Splits (all : List Text) (words : List Text) (options : Options) : Type 0 where
+  pub given : Options
+  pub rows : matches_of words_app all ≡ map row given
+  pub found : Found given words options
+  pub taken : clap_takes words_app all ≡ true
+
+taken_by : (texts : List Text) (words : List Text) (options : Options) → (stands : StandsAt (fold (walked the_rules []) (walk_from nothing_held) texts) words options None)
+    → walk_passes the_shape [] (walk_from nothing_held) texts ≡ true → level_passes the_shape [] nothing_held texts false ≡ true
+taken_by texts words options stands passes = rw (passes, stands.1.place, stands.1.passes) refl
+
+pub splits : (c : Command) (all : List Text) (words : List Text) (options : Options) → length words ≤ 3 → takes c options ≡ true
+    → arguments_of (map word_of (drop 1 all)) ≡ Some (record { positionals = words; options = options }) → Splits all words options
+splits c all words options few t e =
+    let a : Arguments = record { positionals = words; options = options } in
+    let ends = goes c words options few t (drop 1 all) None (walk_from nothing_held) [] [] a at_start e refl refl in
+    record {
+      given = ends.0.0;
+      rows = finished-same the_rules _ no_defaults
+          ∙ ap (λ (w : Walk). settled_rows the_rules w.held.pending w.held.rows) ends.0.1.place ∙ ends.0.1.held;
+      found = ends.0.2;
+      taken = leaf_takes (built words_app) nothing_held (drop 1 all) refl (taken_by (drop 1 all) words options ends.0 ends.1);
+    }
+
+-- ---- the job of what clap finds
+
+-- where there is a job, the words are its arguments
+record IsTaken (c : Command) (found : Option Arguments) : Type 0 where
+  arguments : Arguments
+  is : found ≡ Some arguments
+  few : length arguments.positionals ≤ 3
+  taken : takes c arguments.options ≡ true
+
+few_words : (c : Command) (words : List Text) (value : Text → Option Text) → is_some (job_with c words value) ≡ true → length words ≤ 3
+few_words c [] value e = omega arith
+few_words c (first ∷ []) value e = omega arith
+few_words c (first ∷ second ∷ []) value e = omega arith
+few_words c (first ∷ second ∷ third ∷ []) value e = omega arith
+few_words c (first ∷ second ∷ third ∷ fourth ∷ more) value e =
+    let none = no_four c first second third fourth more value in cc
+
+taken_if : (c : Command) (a : Arguments) (b : Bool) → takes c a.options ≡ b
+    → is_some (cond b (job_with c a.positionals (λ name. value_of name a.options)) None) ≡ true → IsTaken c (Some a)
+taken_if c a true t e = record { arguments = a; is = refl; few = few_words c a.positionals _ e; taken = t }
+taken_if c a false t e = cc
+
+is_taken : (c : Command) (found : Option Arguments) → is_some (option_and_then (job_given c) found) ≡ true → IsTaken c found
+is_taken c None e = cc
+is_taken c (Some a) e = taken_if c a (takes c a.options) refl e
+
+words_at-few : (words : List Text) → length words ≤ 3 → words_at (slice_get words 0) (slice_get words 1) (slice_get words 2) ≡ words
+words_at-few [] few = refl
+words_at-few (first ∷ []) few = refl
+words_at-few (first ∷ second ∷ []) few = refl
+words_at-few (first ∷ second ∷ third ∷ []) few = refl
+words_at-few (first ∷ second ∷ third ∷ fourth ∷ more) few = absurd (omega arith)
+
+-- what clap's matches have under a name
+value_found : (f : Matches) (all : List Text) (words : List Text) (options : Options) (name : Text) → (s : Splits all words options)
+    → rows_of f ≡ matches_of words_app all → first_value f name ≡ value_of name s.given
+value_found f all words options name s rows =
+    first_value-rows f name ∙ ap (first_of name) (rows ∙ s.rows) ∙ first_of-row name s.given
+
+-- the texts that `get_str` gave
+pub record Gets (f : Matches) (first second third : Option Text) (values : Values) : Type 0 where
+  pub first_is : first ≡ first_value f (codes "first")
+  pub second_is : second ≡ first_value f (codes "second")
+  pub third_is : third ≡ first_value f (codes "third")
+  pub seed : values.seed ≡ first_value f (codes "seed")
+  pub limit : values.limit ≡ first_value f (codes "limit")
+  pub steps : values.steps ≡ first_value f (codes "steps")
+  pub input : values.input ≡ first_value f (codes "input")
+
+pub split_job : (c : Command) (all : List Text) (f : Matches) (first second third : Option Text) (values : Values)
+    → is_some (job_after c (drop 1 all)) ≡ true → rows_of f ≡ matches_of words_app all → Gets f first second third values
+    → job_after c (drop 1 all) ≡ job_with c (words_at first second third) (value_in values)
+split_job c all f first second third values some rows got =
+    let t = is_taken c (arguments_of (map word_of (drop 1 all))) some in
+    let a = t.arguments in
+    let s = splits c all a.positionals a.options t.few t.taken t.is in
+    let value = λ (name : Text). value_found f all a.positionals a.options name s rows in
+    let words : words_at first second third ≡ a.positionals =
+        rw (got.first_is ∙ value (codes "first") ∙ s.found.first, got.second_is ∙ value (codes "second") ∙ s.found.second, got.third_is ∙ value (codes "third") ∙ s.found.third)
+        (words_at-few a.positionals t.few) in
+    given-whole c (words_at first second third) values (map word_of (drop 1 all)) (record {
+      options = a.options;
+      whole = t.is ∙ ap (λ (w : List Text). Some (record { positionals = w; options = a.options })) (sym words);
+      values = record {
+        seed = sym (got.seed ∙ value (codes "seed") ∙ s.found.seed);
+        limit = sym (got.limit ∙ value (codes "limit") ∙ s.found.limit);
+        steps = sym (got.steps ∙ value (codes "steps") ∙ s.found.steps);
+        input = sym (got.input ∙ value (codes "input") ∙ s.found.input);
+      };
+      taken = t.taken;
+    })
+
+-- clap takes the words of a job
+pub job_taken : (c : Command) (all : List Text) → is_some (job_after c (drop 1 all)) ≡ true → clap_takes words_app all ≡ true
+job_taken c all some =
+    let t = is_taken c (arguments_of (map word_of (drop 1 all))) some in
+    (splits c all t.arguments.positionals t.arguments.options t.few t.taken t.is).taken
+
+-- the same of the texts behind strings
+pub strings_job : (c : Command) (words : List (String Global)) (f : Matches) (first second third : Option Text) (values : Values)
+    → is_some (job_after c (map string_bytes (drop 1 words))) ≡ true → rows_of f ≡ matches_of words_app (map string_bytes words) → Gets f first second third values
+    → job_after c (map string_bytes (drop 1 words)) ≡ job_with c (words_at first second third) (value_in values)
+strings_job c words f first second third values some rows got =
+    let e = drop-map string_bytes 1 words in
+    ap (job_after c) (sym e) ∙ split_job c (map string_bytes words) f first second third values (ap (λ (t : List Text). is_some (job_after c t)) e ∙ some) rows got
+
+pub strings_taken : (c : Command) (words : List (String Global)) → is_some (job_after c (map string_bytes (drop 1 words))) ≡ true
+    → clap_takes words_app (map string_bytes words) ≡ true
+strings_taken c words some =
+    job_taken c (map string_bytes words) (ap (λ (t : List Text). is_some (job_after c t)) (drop-map string_bytes 1 words) ∙ some)

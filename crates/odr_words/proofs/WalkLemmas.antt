@@ -95,7 +95,7 @@ texts_tie a b = tied (bytes_eq a b) (bytes_eq b a) refl refl
     tied false false e f = e ∙ sym f
 
 -- the first row of a name has the name's value
-first_of-row : (name : Text) (given : Options) → first_of name (map row given) ≡ value_of name given
+pub first_of-row : (name : Text) (given : Options) → first_of name (map row given) ≡ value_of name given
 first_of-row name [] = refl
 first_of-row name (g ∷ given) = step (bytes_eq g.0 name) (texts_tie name g.0) (first_of-row name given)
   where

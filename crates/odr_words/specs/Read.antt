@@ -1,7 +1,7 @@
 -- What the reader's own values stand for.
-use Rattle.std.specs.Prelude.{◌≡◌, ◌≢◌, ◌==◌, ◌++◌, true, List, [], ◌∷◌, length, codes, bytes_eq, Option, Some, None, option_map, option_and_then, Result, Ok, Err, if◌then◌else◌}
+use Rattle.std.specs.Prelude.{◌≡◌, ◌≢◌, ◌==◌, ◌++◌, true, List, [], ◌∷◌, length, map, codes, bytes_eq, Option, Some, None, option_map, option_and_then, Result, Ok, Err, if◌then◌else◌}
 use Rattle.std.specs.List.{list_any}
-use Rattle.odr_words.specs.Arguments.{Text, Options, Arguments, Plain, Name, NameValue, Neither, arguments_of, value_of}
+use Rattle.odr_words.specs.Arguments.{Text, Options, Arguments, Plain, Name, NameValue, Neither, word_of, arguments_of, value_of}
 use Rattle.odr_words.specs.Arguments.{Word as SeenWord}
 use Rattle.odr_words.specs.Jobs.{options_of, takes, job_given}
 use Rattle.odr_words.specs.declared.command.Command.{Command}
@@ -13,7 +13,7 @@ use Rattle.odr_words.specs.declared.word.Word.TheVariants as word
 use Rattle.odr_words.specs.declared.positionals.Positionals.{Positionals}
 use Rattle.odr_words.specs.declared.positionals.Positionals.TheVariants as positionals
 use Rattle.odr_words.specs.declared.options.OptionValues.{OptionValues}
-use Rattle.odr_words.specs.declared.given.Given.{Given}
+use Rattle.odr_words.specs.declared.reading.Reading.{Reading}
 
 -- ---- values as texts
 
@@ -56,11 +56,11 @@ pub record Progress : Type 0 where
   pub values : Values
   pub awaiting : Option Text
 
-abbrev pub seen_given : Given → Progress
-seen_given given = record {
-  positionals = seen_positionals given.positionals;
-  values = seen_values given.options;
-  awaiting = option_map (λ name. name.now) given.awaiting;
+abbrev pub seen_reading : Reading → Progress
+seen_reading reading = record {
+  positionals = seen_positionals reading.positionals;
+  values = seen_values reading.options;
+  awaiting = option_map (λ name. name.now) reading.awaiting;
 }
 
 -- ---- one more word
@@ -143,6 +143,17 @@ pub record IsWhole (command : Command) (words : List Text) (texts : Values) (all
 -- no job has these words after its command
 abbrev pub IsNoJob : Command → List SeenWord → Type 0
 IsNoJob command all = option_and_then (job_given command) (arguments_of all) ≡ None
+
+-- the job of a command with the words after it
+abbrev pub job_after : Command → List Text → Option Job
+job_after command words = option_and_then (job_given command) (arguments_of (map word_of words))
+
+-- the words of three places, of which the later are empty where an earlier is
+abbrev pub words_at : Option Text → Option Text → Option Text → List Text
+words_at (Some first) (Some second) (Some third) = first ∷ second ∷ third ∷ []
+words_at (Some first) (Some second) None = first ∷ second ∷ []
+words_at (Some first) None third = first ∷ []
+words_at None second third = []
 
 -- the result is the job, or says that there is none; it may want memory only where there is one
 abbrev pub Reads : Option Job → Result Job WordsFault → Type 0

@@ -10,6 +10,7 @@ mod number;
 mod options;
 mod positionals;
 mod read;
+mod reading;
 mod split;
 mod word;
 

@@ -1,5 +1,6 @@
-ghost use Rattle.std.specs.Prelude.{◌≡◌, IfOk, option_map};
+ghost use Rattle.std.specs.Prelude.{◌≡◌, ◌-◌, ◌^◌, IfOk, option_map, is_some};
 ghost use Rattle.odr_words.specs.Jobs.{job_with};
+ghost use Rattle.odr_words.specs.Numbers.{number_in, number_or};
 ghost use Rattle.odr_words.specs.Read.{seen_positionals, seen_values, value_in, Reads};
 
 use crate::command::Command;
@@ -22,6 +23,57 @@ fn copy_of(alloc: Global, text: Option<&str>) -> Result<Option<WordText>, Memory
     }
 }
 
+/// The seed, its default or none where it is no number within its limits.
+fn seed(options: &OptionValues<'_>) -> Option<u64>
+    ensures { result ≡ number_or 42 0 (2 ^ 64 - 1) (seen_values options.now).seed }
+{
+    number_or(42, 0, u64::MAX, options.seed)
+}
+
+/// The limit of steps, its default or none where it is no number within its limits.
+fn limit(options: &OptionValues<'_>) -> Option<u32>
+    ensures { result ≡ number_or 100000 1 250000 (seen_values options.now).limit }
+{
+    match number_or(100_000, 1, 250_000, options.limit) {
+        Some(limit) => Some(limit as u32),
+        None => None,
+    }
+}
+
+/// The count of derived lines, its default or none where it is no number within its limits.
+fn steps(options: &OptionValues<'_>) -> Option<u64>
+    ensures { result ≡ number_or 20000 1 1000000000 (seen_values options.now).steps }
+{
+    number_or(20_000, 1, 1_000_000_000, options.steps)
+}
+
+/// The size of a demo, or none where it is no number within its limits.
+fn size(text: &str) -> Option<u32>
+    ensures { result ≡ number_in 0 40 text.now }
+{
+    match number_in(text, 0, 40) {
+        Some(number) => Some(number as u32),
+        None => None,
+    }
+}
+
+/// Whether a job has this many positional words, and numbers within their limits.
+pub fn fits(command: Command, given: &Given<'_>) -> bool
+    ensures { result ≡ is_some (job_with command (seen_positionals given.now.positionals) (value_in (seen_values given.now.options))) }
+{
+    let options = &given.options;
+    match (command, given.positionals) {
+        (Command::Record, Positionals::Two(..)) => seed(options).is_some() && limit(options).is_some(),
+        (Command::Infer, Positionals::Three(..)) => steps(options).is_some(),
+        (Command::Check, Positionals::Three(..)) => true,
+        (Command::Replay, Positionals::Three(..)) => true,
+        (Command::Debug, Positionals::Three(..)) => true,
+        (Command::Asm, Positionals::Two(..)) => true,
+        (Command::Demo, Positionals::One(number)) => size(number).is_some(),
+        _ => false,
+    }
+}
+
 fn record(
     alloc: Global,
     words: Positionals<'_>,
@@ -32,17 +84,17 @@ fn record(
     let Positionals::Two(elf, log) = words else {
         return Err(WordsFault::Bad);
     };
-    let Some(seed) = number_or(42, 0, u64::MAX, options.seed) else {
+    let Some(seed) = seed(&options) else {
         return Err(WordsFault::Bad);
     };
-    let Some(limit) = number_or(100_000, 1, 250_000, options.limit) else {
+    let Some(limit) = limit(&options) else {
         return Err(WordsFault::Bad);
     };
     Ok(Job::Record {
         elf: WordText::from_str(alloc, elf)?,
         log: WordText::from_str(alloc, log)?,
         seed,
-        limit: limit as u32,
+        limit,
         input: copy_of(alloc, options.input)?,
     })
 }
@@ -57,7 +109,7 @@ fn infer(
     let Positionals::Three(elf, log, out) = words else {
         return Err(WordsFault::Bad);
     };
-    let Some(steps) = number_or(20_000, 1, 1_000_000_000, options.steps) else {
+    let Some(steps) = steps(&options) else {
         return Err(WordsFault::Bad);
     };
     Ok(Job::Infer {
@@ -137,10 +189,8 @@ fn demo(words: Positionals<'_>, options: OptionValues<'_>) -> Result<Job, WordsF
     let Positionals::One(number) = words else {
         return Err(WordsFault::Bad);
     };
-    match number_in(number, 0, 40) {
-        Some(number) => Ok(Job::Demo {
-            number: number as u32,
-        }),
+    match size(number) {
+        Some(number) => Ok(Job::Demo { number }),
         None => Err(WordsFault::Bad),
     }
 }

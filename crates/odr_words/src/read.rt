@@ -1,33 +1,33 @@
-ghost use Rattle.std.specs.Prelude.{◌≡◌, ◌↔◌, ◌∷◌, map, string_bytes, Some, None, IfOk, IsErrOf};
+ghost use Rattle.std.specs.Prelude.{◌≡◌, ◌↔◌, true, is_some, drop, map, string_bytes, Some, None, IfOk, IsErrOf};
 ghost use Rattle.odr_words.specs.Jobs.{job_of};
-ghost use Rattle.odr_words.specs.Read.{Reads};
+ghost use Rattle.odr_words.specs.Read.{Reads, job_after};
 
-use crate::command::command_of;
+use crate::command::{Command, command_of};
 use crate::fault::WordsFault;
-use crate::given::given_by;
+use crate::reading::is_job;
+use crate::split::split;
 use crate::job::Job;
 use crate::making::job_with;
 use std::alloc::Global;
 
-/// The job of a command's word and the words after it.
-fn job_from(alloc: Global, first: &str, rest: &[String]) -> Result<Job, WordsFault>
-    ensures { Reads (job_of (first.now ∷ map string_bytes rest.now)) result }
+/// The job of words of which the first is a command's word.
+fn job_after(alloc: Global, command: Command, words: &[String]) -> Result<Job, WordsFault>
+    requires { is_some (job_after command (map string_bytes (drop 1 words.now))) ≡ true }
+    ensures { Reads (job_after command (map string_bytes (drop 1 words.now))) result }
 {
-    let Some(command) = command_of(first) else {
-        return Err(WordsFault::Bad);
-    };
-    let Some(given) = given_by(command, rest) else {
-        return Err(WordsFault::Bad);
-    };
+    let given = split(alloc, command, words)?;
     job_with(alloc, command, &given)
 }
 
 fn job_of(alloc: Global, words: &[String]) -> Result<Job, WordsFault>
     ensures { Reads (job_of (map string_bytes words.now)) result }
 {
-    match words {
-        [] => Err(WordsFault::Bad),
-        [first, rest @ ..] => job_from(alloc, first.as_str(), rest),
+    let [first, rest @ ..] = words else {
+        return Err(WordsFault::Bad);
+    };
+    match command_of(first.as_str()) {
+        Some(command) if is_job(command, rest) => job_after(alloc, command, words),
+        _ => Err(WordsFault::Bad),
     }
 }
 

@@ -2,7 +2,7 @@ use Rattle.std.proofs.Common.{rules, ap, ap₂, true, ◌≡◌, ◌∙◌, map}
 use Rattle.std.proofs.lemmas.Result.{IfErr-weaker}
 use Rattle.std.specs.String.{string_bytes}
 use Rattle.clap.specs.Takes.{takes}
-use Rattle.odr_words.proofs.SplitLemmas.{kind_of, found-option, goes_named, goes_value, goes_joined, goes_positional}
+use Rattle.odr_words.proofs.SplitLemmas.{splits}
 use Rattle.odr_words.proofs.split.matches.Goals as goal
 
 pub returns-clause-passes : goal.returns-clause-passes
