@@ -1,10 +1,8 @@
 -- The job of the words, from what was read of them.
-use Rattle.std.proofs.Common.{◌≡◌, List, [], ◌∷◌, length, take, drop, get_or, map, ◌-◌, String, Global, ◌≤◌, Option, Some, None, option_and_then, is_some, IsErrAnd, true, Ok, Err, Result, refl, sym, ap, ◌∙◌, subst, arith}
-use Rattle.std.specs.String.{string_bytes}
-use Rattle.std.proofs.Math.Seq.{take-length}
-use Rattle.odr_words.specs.Arguments.{Text, Options, Word, word_of, arguments_of, value_of}
-use Rattle.odr_words.specs.Jobs.{command_of, job_with, job_given, job_of}
-use Rattle.odr_words.specs.Read.{Values, HasValues, IsWhole, IsNoJob, Reads, value_in}
+use Rattle.std.proofs.Common.{◌≡◌, List, [], ◌∷◌, Option, option_and_then, is_some, IsErrAnd, true, Ok, Err, Result, refl, ap, ◌∙◌}
+use Rattle.odr_words.specs.Arguments.{Text, Options, Word, arguments_of, value_of}
+use Rattle.odr_words.specs.Jobs.{job_with, job_given}
+use Rattle.odr_words.specs.Read.{Values, HasValues, IsWhole, Reads, value_in}
 use Rattle.odr_words.specs.declared.command.Command.{Command}
 use Rattle.odr_words.specs.declared.command.Command.TheVariants as command
 use Rattle.odr_words.specs.declared.fault.WordsFault.{WordsFault}

@@ -1,9 +1,9 @@
 -- The rows that clap finds are the positional words and the options of the words.
-use Rattle.std.proofs.Common.{◌≡◌, ◌==◌, ◌+◌, ◌<◌, ◌≤◌, ◌++◌, ◌&&◌, ◌||◌, ◌⊎◌, inl, inr, ℕ, zero, suc, Bool, true, false, not, cond, List, [], ◌∷◌, length, map, take, drop, String, Global, codes, Option, Some, None, is_some, option_map, option_and_then, refl, sym, ap, ap₂, ◌∙◌, subst, arith, tests, rules}
+use Rattle.std.proofs.Common.{◌≡◌, ◌+◌, ◌<◌, ◌≤◌, ◌++◌, ◌&&◌, ◌||◌, ◌⊎◌, inl, inr, ℕ, suc, Bool, true, false, cond, List, [], ◌∷◌, length, map, drop, String, Global, codes, Option, Some, None, is_some, option_map, option_and_then, refl, sym, ap, ap₂, ◌∙◌, subst, arith, tests, rules}
 use Rattle.std.specs.Prelude.{slice_get, nat_eq}
 use Rattle.std.specs.Str.{bytes_eq}
 use Rattle.std.specs.Cmp.Lexicographic.{same_text}
-use Rattle.std.specs.List.{fold, list_any, before_first, after_first, position_or_len, starts_with}
+use Rattle.std.specs.List.{fold, list_any, before_first, after_first, starts_with}
 use Rattle.std.specs.String.{string_bytes}
 use Rattle.std.proofs.lemmas.List.{drop-map, append_assoc, append-nil, length-append}
 use Rattle.clap.specs.Lexer.{long_of}
@@ -17,7 +17,7 @@ use Rattle.clap.specs.Matches.{first_value}
 use Rattle.clap.specs.Walk.{rows_of}
 use Rattle.clap.specs.declared.parser.matches.Found.{Found as Matches}
 use Rattle.odr_words.specs.Split.{words_app}
-use Rattle.odr_words.specs.Arguments.{Text, Options, Arguments, Word, Plain, Name, NameValue, Neither, is_plain, is_equals_sign, with_value, option_of, word_of, arguments_of, with_positional, with_option, value_of, has_name}
+use Rattle.odr_words.specs.Arguments.{Text, Options, Arguments, Word, Plain, Name, NameValue, Neither, is_plain, is_equals_sign, option_of, word_of, arguments_of, with_positional, with_option, value_of, has_name}
 use Rattle.odr_words.specs.Jobs.{options_of, takes, job_with, job_given}
 use Rattle.odr_words.specs.Read.{Values, pending, words_at, job_after, value_in}
 use Rattle.odr_words.specs.declared.command.Command.{Command}
@@ -93,9 +93,11 @@ new_option c name value before after t =
     by_known : (b : Bool) → list_any (bytes_eq name) (options_of c) ≡ b → list_any (bytes_eq name) (options_of c) ≡ true
     by_known true e = e
     by_known false e = let f = takes-unknown c name value before after e in cc
+
     by_value : (found : Option Text) → value_of name before ≡ found → is_some found ≡ false → value_of name before ≡ None
     by_value None e f = e
     by_value (Some v) e f = cc
+
     by_new : (b : Bool) → has_name name before ≡ b → value_of name before ≡ None
     by_new true e = let f = takes-twice c name value before after e in cc
     by_new false e =
@@ -181,38 +183,56 @@ pub positional : (w : Walk) (given : Options) (words : List Text) (options : Opt
     → Idle w given (place_of words) → Found given words options
     → StandsAt (walked the_rules [] w word) (words ++ word ∷ []) options None × turn_is_fine w word
 positional w given [] options word e few idle found =
-    let s = place-step w given 1 2 (codes "first") word e (refl, refl) refl found.first idle in
-    ((given ++ (codes "first", word) ∷ [], s.0, record {
-      first = new_value (codes "first") word given refl found.first;
-      second = kept (codes "second") (codes "first") word given None refl found.second;
-      third = kept (codes "third") (codes "first") word given None refl found.third;
-      seed = kept (codes "seed") (codes "first") word given _ refl found.seed;
-      limit = kept (codes "limit") (codes "first") word given _ refl found.limit;
-      steps = kept (codes "steps") (codes "first") word given _ refl found.steps;
-      input = kept (codes "input") (codes "first") word given _ refl found.input;
-    }), s.1)
+    let s = place-step w given 1 2 (codes "first") word e (refl, refl) refl found.first idle in (
+      (
+        given ++ (codes "first", word) ∷ [],
+        s.0,
+        record {
+          first = new_value (codes "first") word given refl found.first;
+          second = kept (codes "second") (codes "first") word given None refl found.second;
+          third = kept (codes "third") (codes "first") word given None refl found.third;
+          seed = kept (codes "seed") (codes "first") word given _ refl found.seed;
+          limit = kept (codes "limit") (codes "first") word given _ refl found.limit;
+          steps = kept (codes "steps") (codes "first") word given _ refl found.steps;
+          input = kept (codes "input") (codes "first") word given _ refl found.input;
+        },
+      ),
+      s.1,
+    )
 positional w given (first ∷ []) options word e few idle found =
-    let s = place-step w given 2 3 (codes "second") word e (refl, refl) refl found.second idle in
-    ((given ++ (codes "second", word) ∷ [], s.0, record {
-      first = kept (codes "first") (codes "second") word given (Some first) refl found.first;
-      second = new_value (codes "second") word given refl found.second;
-      third = kept (codes "third") (codes "second") word given None refl found.third;
-      seed = kept (codes "seed") (codes "second") word given _ refl found.seed;
-      limit = kept (codes "limit") (codes "second") word given _ refl found.limit;
-      steps = kept (codes "steps") (codes "second") word given _ refl found.steps;
-      input = kept (codes "input") (codes "second") word given _ refl found.input;
-    }), s.1)
+    let s = place-step w given 2 3 (codes "second") word e (refl, refl) refl found.second idle in (
+      (
+        given ++ (codes "second", word) ∷ [],
+        s.0,
+        record {
+          first = kept (codes "first") (codes "second") word given (Some first) refl found.first;
+          second = new_value (codes "second") word given refl found.second;
+          third = kept (codes "third") (codes "second") word given None refl found.third;
+          seed = kept (codes "seed") (codes "second") word given _ refl found.seed;
+          limit = kept (codes "limit") (codes "second") word given _ refl found.limit;
+          steps = kept (codes "steps") (codes "second") word given _ refl found.steps;
+          input = kept (codes "input") (codes "second") word given _ refl found.input;
+        },
+      ),
+      s.1,
+    )
 positional w given (first ∷ second ∷ []) options word e few idle found =
-    let s = place-step w given 3 4 (codes "third") word e (refl, refl) refl found.third idle in
-    ((given ++ (codes "third", word) ∷ [], s.0, record {
-      first = kept (codes "first") (codes "third") word given (Some first) refl found.first;
-      second = kept (codes "second") (codes "third") word given (Some second) refl found.second;
-      third = new_value (codes "third") word given refl found.third;
-      seed = kept (codes "seed") (codes "third") word given _ refl found.seed;
-      limit = kept (codes "limit") (codes "third") word given _ refl found.limit;
-      steps = kept (codes "steps") (codes "third") word given _ refl found.steps;
-      input = kept (codes "input") (codes "third") word given _ refl found.input;
-    }), s.1)
+    let s = place-step w given 3 4 (codes "third") word e (refl, refl) refl found.third idle in (
+      (
+        given ++ (codes "third", word) ∷ [],
+        s.0,
+        record {
+          first = kept (codes "first") (codes "third") word given (Some first) refl found.first;
+          second = kept (codes "second") (codes "third") word given (Some second) refl found.second;
+          third = new_value (codes "third") word given refl found.third;
+          seed = kept (codes "seed") (codes "third") word given _ refl found.seed;
+          limit = kept (codes "limit") (codes "third") word given _ refl found.limit;
+          steps = kept (codes "steps") (codes "third") word given _ refl found.steps;
+          input = kept (codes "input") (codes "third") word given _ refl found.input;
+        },
+      ),
+      s.1,
+    )
 positional w given (first ∷ second ∷ third ∷ more) options word e few idle found = absurd (omega arith)
 
 abbrev pub Ends : List Text → Options → List Text → Walk → Type 0
@@ -250,9 +270,9 @@ goes_positional all_words all_options word rest w words options a few plain stan
     let size : length words + suc (length b.0.positionals) ≡ length all_words = sym (length-append words (word ∷ b.0.positionals)) ∙ ap length all in
     let s = positional w stands.0 words options word plain (omega arith) stands.1 stands.2 in
     ends_more all_words all_options w word rest s.1
-        (next None (walked the_rules [] w word) (words ++ word ∷ []) options b.0 s.0 b.1
-        (append_assoc words (word ∷ []) b.0.positionals ∙ all)
-        (ap (λ (x : Arguments). options ++ x.options) b.2 ∙ o))
+    (next None (walked the_rules [] w word) (words ++ word ∷ []) options b.0 s.0 b.1
+    (append_assoc words (word ∷ []) b.0.positionals ∙ all)
+    (ap (λ (x : Arguments). options ++ x.options) b.2 ∙ o))
 
 -- what the arguments after an option are
 after_option : (c : Command) (all_words : List Text) (all_options : Options) (name value : Text) (found : Option Arguments) (words : List Text) (options : Options) (a : Arguments)
@@ -276,8 +296,8 @@ goes_joined c all_words all_options name value word rest w words options a t d l
     let b = after_option c all_words all_options name value (arguments_of (map word_of rest)) words options a t e p o in
     let s = joined-step w stands.0 (place_of words) name value word b.4 (found-new name stands.0 words options b.4 stands.2 b.5) d l stands.1 in
     ends_more all_words all_options w word rest s.1
-        (next None (walked the_rules [] w word) words (options ++ (name, value) ∷ []) b.0
-        (stands.0 ++ (name, value) ∷ [], s.0, found-option name value stands.0 words options b.4 stands.2) b.1 b.2 b.3)
+    (next None (walked the_rules [] w word) words (options ++ (name, value) ∷ []) b.0
+    (stands.0 ++ (name, value) ∷ [], s.0, found-option name value stands.0 words options b.4 stands.2) b.1 b.2 b.3)
 
 -- a value that an option waits for
 pub goes_value : (c : Command) (all_words : List Text) (all_options : Options) (name word : Text) (rest : List Text) (w : Walk) (words : List Text) (options : Options) (a : Arguments)
@@ -289,8 +309,8 @@ goes_value c all_words all_options name word rest w words options a t plain stan
     let b = after_option c all_words all_options name word (arguments_of (map word_of rest)) words options a t e p o in
     let s = value-step w stands.0 (place_of words) name word plain b.4 (found-new name stands.0 words options b.4 stands.2 b.5) stands.1 in
     ends_more all_words all_options w word rest s.1
-        (next None (walked the_rules [] w word) words (options ++ (name, word) ∷ []) b.0
-        (stands.0 ++ (name, word) ∷ [], s.0, found-option name word stands.0 words options b.4 stands.2) b.1 b.2 b.3)
+    (next None (walked the_rules [] w word) words (options ++ (name, word) ∷ []) b.0
+    (stands.0 ++ (name, word) ∷ [], s.0, found-option name word stands.0 words options b.4 stands.2) b.1 b.2 b.3)
 
 -- the option that `--name` begins
 pub goes_named : (all_words : List Text) (all_options : Options) (name word : Text) (rest : List Text) (w : Walk) (words : List Text) (options : Options) (a : Arguments)
@@ -301,7 +321,7 @@ pub goes_named : (all_words : List Text) (all_options : Options) (name word : Te
 goes_named all_words all_options name word rest w words options a is_one new d l stands e p o next =
     let s = named-step w stands.0 (place_of words) name word is_one d l stands.1 in
     ends_more all_words all_options w word rest s.1
-        (next (Some name) (walked the_rules [] w word) words options a (stands.0, s.0, stands.2, is_one, new) e p o)
+    (next (Some name) (walked the_rules [] w word) words options a (stands.0, s.0, stands.2, is_one, new) e p o)
 
 -- ---- each kind of word
 
@@ -347,7 +367,7 @@ turn_option c all_words all_options text rest true true t any plain is next w wo
     let is_joined : word_of (45 ∷ 45 ∷ text) ≡ NameValue (before_first is_equals_sign text) (after_first is_equals_sign text) = is ∙ rw (any, plain) refl in
     let l = long_joined text any in
     goes_joined c all_words all_options (before_first is_equals_sign text) (after_first is_equals_sign text) (45 ∷ 45 ∷ text) rest w words options a
-        t l.1 l.0 stands (rw is_joined at e) p o next
+    t l.1 l.0 stands (rw is_joined at e) p o next
 turn_option c all_words all_options text rest true false t any plain is next w words options a stands e p o =
     let is_neither : word_of (45 ∷ 45 ∷ text) ≡ Neither = is ∙ rw (any, plain) refl in
     let none : arguments_of (Neither ∷ map word_of rest) ≡ Some a = rw is_neither at e in cc
@@ -419,9 +439,19 @@ no_defaults = (refl, (refl, (refl, (refl, (refl, (refl, (refl, tt)))))))
 
 -- the walk begins with nothing
 at_start : StandsAt (walk_from nothing_held) [] [] None
-at_start = ([], record { rows = []; pending = None; place = refl; held = refl; passes = refl }, record {
-  first = refl; second = refl; third = refl; seed = refl; limit = refl; steps = refl; input = refl;
-})
+at_start = (
+  [],
+  record { rows = []; pending = None; place = refl; held = refl; passes = refl },
+  record {
+    first = refl;
+    second = refl;
+    third = refl;
+    seed = refl;
+    limit = refl;
+    steps = refl;
+    input = refl;
+  },
+)
 
 -- the command takes the words of a job, and finds their positional words and options
 pub record Splits (all : List Text) (words : List Text) (options : Options) : Type 0 where
@@ -505,8 +535,8 @@ split_job c all f first second third values some rows got =
     let s = splits c all a.positionals a.options t.few t.taken t.is in
     let value = λ (name : Text). value_found f all a.positionals a.options name s rows in
     let words : words_at first second third ≡ a.positionals =
-        rw (got.first_is ∙ value (codes "first") ∙ s.found.first, got.second_is ∙ value (codes "second") ∙ s.found.second, got.third_is ∙ value (codes "third") ∙ s.found.third)
-        (words_at-few a.positionals t.few) in
+    rw (got.first_is ∙ value (codes "first") ∙ s.found.first, got.second_is ∙ value (codes "second") ∙ s.found.second, got.third_is ∙ value (codes "third") ∙ s.found.third)
+    (words_at-few a.positionals t.few) in
     given-whole c (words_at first second third) values (map word_of (drop 1 all)) (record {
       options = a.options;
       whole = t.is ∙ ap (λ (w : List Text). Some (record { positionals = w; options = a.options })) (sym words);

@@ -1,20 +1,20 @@
 -- The walk of the command that splits words: its rows are the positional words by their places, and
 -- the values of the options by their names.
-use Rattle.std.proofs.Common.{◌==◌, min, ◌≡◌, ◌+◌, ◌++◌, ◌&&◌, ◌||◌, ◌⊎◌, inl, inr, ℕ, zero, suc, Bool, true, false, not, cond, List, [], ◌∷◌, length, map, drop, codes, Option, Some, None, is_some, option_map, option_and_then, refl, sym, ap, ap₂, ◌∙◌, subst, arith, rules}
+use Rattle.std.proofs.Common.{◌==◌, min, ◌≡◌, ◌+◌, ◌++◌, ◌&&◌, ◌||◌, ℕ, Bool, true, false, not, cond, List, [], ◌∷◌, map, codes, Option, Some, None, option_and_then, refl, sym, ap, ap₂, ◌∙◌}
 use Rattle.std.specs.Prelude.{slice_get}
 use Rattle.std.specs.Str.{bytes_eq}
 use Rattle.std.specs.Cmp.Lexicographic.{same_text}
-use Rattle.std.specs.List.{fold, list_any, list_all, find}
+use Rattle.std.specs.List.{find}
 use Rattle.std.proofs.lemmas.Slice.Eq.{bytes_eq-Decides}
 use Rattle.clap.specs.Lexer.{usize_max, long_of, short_of}
-use Rattle.clap.specs.Walk.{Held, Row, Rule, Waiting, Walk, idle, option, walked, settled_rows, first_of, has_row, with_values, without, with_default, arg_by_long, arg_by_id, arg_by_index, is_pending, reading_by, finished, used}
+use Rattle.clap.specs.Walk.{Row, Rule, Waiting, Walk, idle, option, walked, settled_rows, first_of, has_row, with_values, without, arg_by_long, arg_by_id, arg_by_index, is_pending, reading_by, used}
 use Rattle.clap.specs.Simple.{built, new_rule, Shape}
-use Rattle.clap.specs.Takes.{settle_passes, walk_passes, use_passes, word_passes, turn_passes}
+use Rattle.clap.specs.Takes.{settle_passes, turn_passes}
 use Rattle.clap.specs.declared.parser.matches.ValueSource.TheVariants.{CommandLine}
 use Rattle.clap.specs.declared.builder.action.ArgAction.TheVariants.{Set}
 use Rattle.clap.specs.declared.builder.value_parser.ValueParser.TheVariants as vp
 use Rattle.odr_words.specs.Split.{words_app, option_rule}
-use Rattle.odr_words.specs.Arguments.{Text, Options, Arguments, Word, Plain, Name, NameValue, Neither, is_plain, word_of, arguments_of, with_positional, with_option, value_of, has_name}
+use Rattle.odr_words.specs.Arguments.{Text, Options, is_plain, value_of}
 
 abbrev pub the_shape : Shape
 the_shape = (built words_app).top
@@ -194,16 +194,17 @@ pub place-step : (w : Walk) (given : Options) (position next_position : ℕ) (na
     → Idle (walked the_rules [] w word) (given ++ (name, word) ∷ []) next_position × turn_is_fine w word
 place-step w given position next_position name word e is further new h =
     let d = not_dashes word e in
-    let absent : has_row name (map row given) ≡ false = has_row-none name given new in
-    (record {
-      rows = settled_rows the_rules h.pending h.rows;
-      pending = Some (name, word ∷ []);
-      place = ap (λ v. walked the_rules [] v word) h.place ∙ place-turn h.rows h.pending position name word e is
-          ∙ ap (λ n. walk_at (settled_rows the_rules h.pending h.rows) (Some (name, word ∷ [])) idle n) further;
-      held = rw (is.1, h.held) (used-new name word given new);
-      passes = rw (is.1, h.held, absent) refl;
-    },
-    rw (h.place, d.0, d.1, d.2, is.0, and_false (is_pending (built_place position name) h.pending), h.passes) refl)
+    let absent : has_row name (map row given) ≡ false = has_row-none name given new in (
+      record {
+        rows = settled_rows the_rules h.pending h.rows;
+        pending = Some (name, word ∷ []);
+        place = ap (λ v. walked the_rules [] v word) h.place ∙ place-turn h.rows h.pending position name word e is
+            ∙ ap (λ n. walk_at (settled_rows the_rules h.pending h.rows) (Some (name, word ∷ [])) idle n) further;
+        held = rw (is.1, h.held) (used-new name word given new);
+        passes = rw (is.1, h.held, absent) refl;
+      },
+      rw (h.place, d.0, d.1, d.2, is.0, and_false (is_pending (built_place position name) h.pending), h.passes) refl,
+    )
 
 -- ---- options
 
@@ -218,12 +219,13 @@ named-turn rows pending position name word o d l = rw (d, l, by_long name o) ref
 pub named-step : (w : Walk) (given : Options) (position : ℕ) (name word : Text) → IsOption name
     → bytes_eq word (45 ∷ 45 ∷ []) ≡ false → long_of word ≡ Some (name, None) → Idle w given position
     → Waits (walked the_rules [] w word) given position name × turn_is_fine w word
-named-step w given position name word o d l h =
-    (record {
-      place = ap (λ v. walked the_rules [] v word) h.place ∙ named-turn h.rows h.pending position name word o d l
-          ∙ ap (λ rows. walk_at rows (Some (name, [])) (option name) position) h.held;
-    },
-    rw (h.place, d, l, by_long name o, h.passes) refl)
+named-step w given position name word o d l h = (
+  record {
+    place = ap (λ v. walked the_rules [] v word) h.place ∙ named-turn h.rows h.pending position name word o d l
+        ∙ ap (λ rows. walk_at rows (Some (name, [])) (option name) position) h.held;
+  },
+  rw (h.place, d, l, by_long name o, h.passes) refl,
+)
 
 value-turn : (rows : List Row) (position : ℕ) (name word : Text) → is_plain word ≡ true → IsOption name
     → walked the_rules [] (walk_at rows (Some (name, [])) (option name) position) word
@@ -238,15 +240,16 @@ pub value-step : (w : Walk) (given : Options) (position : ℕ) (name word : Text
     → Idle (walked the_rules [] w word) (given ++ (name, word) ∷ []) position × turn_is_fine w word
 value-step w given position name word e o new h =
     let d = not_dashes word e in
-    let absent : has_row name (map row given) ≡ false = has_row-none name given new in
-    (record {
-      rows = map row given;
-      pending = Some (name, word ∷ []);
-      place = ap (λ v. walked the_rules [] v word) h.place ∙ value-turn (map row given) position name word e o;
-      held = rw (by_id name o) (used-new name word given new);
-      passes = rw (by_id name o, absent) refl;
-    },
-    rw (h.place, d.0, d.1, d.2) refl)
+    let absent : has_row name (map row given) ≡ false = has_row-none name given new in (
+      record {
+        rows = map row given;
+        pending = Some (name, word ∷ []);
+        place = ap (λ v. walked the_rules [] v word) h.place ∙ value-turn (map row given) position name word e o;
+        held = rw (by_id name o) (used-new name word given new);
+        passes = rw (by_id name o, absent) refl;
+      },
+      rw (h.place, d.0, d.1, d.2) refl,
+    )
 
 joined-turn : (rows : List Row) (pending : Option (Text × List Text)) (position : ℕ) (name value word : Text) → IsOption name
     → bytes_eq word (45 ∷ 45 ∷ []) ≡ false → long_of word ≡ Some (name, Some value)
@@ -259,13 +262,14 @@ pub joined-step : (w : Walk) (given : Options) (position : ℕ) (name value word
     → bytes_eq word (45 ∷ 45 ∷ []) ≡ false → long_of word ≡ Some (name, Some value) → Idle w given position
     → Idle (walked the_rules [] w word) (given ++ (name, value) ∷ []) position × turn_is_fine w word
 joined-step w given position name value word o new d l h =
-    let absent : has_row name (map row given) ≡ false = has_row-none name given new in
-    (record {
-      rows = map row (given ++ (name, value) ∷ []);
-      pending = None;
-      place = ap (λ v. walked the_rules [] v word) h.place ∙ joined-turn h.rows h.pending position name value word o d l
-          ∙ ap (λ rows. walk_at rows None idle position) (ap (used (built_option name) (value ∷ [])) h.held ∙ used-new name value given new);
-      held = refl;
-      passes = refl;
-    },
-    rw (h.place, d, l, by_long name o, h.passes, h.held, absent) refl)
+    let absent : has_row name (map row given) ≡ false = has_row-none name given new in (
+      record {
+        rows = map row (given ++ (name, value) ∷ []);
+        pending = None;
+        place = ap (λ v. walked the_rules [] v word) h.place ∙ joined-turn h.rows h.pending position name value word o d l
+            ∙ ap (λ rows. walk_at rows None idle position) (ap (used (built_option name) (value ∷ [])) h.held ∙ used-new name value given new);
+        held = refl;
+        passes = refl;
+      },
+      rw (h.place, d, l, by_long name o, h.passes, h.held, absent) refl,
+    )

@@ -58,8 +58,8 @@ pub record Progress : Type 0 where
 
 abbrev pub seen_reading : Reading → Progress
 seen_reading reading = record {
-  positionals = seen_positionals reading.positionals;
-  values = seen_values reading.options;
+  positionals = seen_positionals reading.given.positionals;
+  values = seen_values reading.given.options;
   awaiting = option_map (λ name. name.now) reading.awaiting;
 }
 

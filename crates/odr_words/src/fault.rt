@@ -1,7 +1,7 @@
 use odr_list::memory::Memory;
 
 /// Why words were not read as a job.
-#[derive(Clone, Copy, Debug)]
+#[derive(Clone, Copy, Debug, PartialEq, Eq)]
 pub enum WordsFault {
     /// They are no job.
     Bad,

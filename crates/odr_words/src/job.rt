@@ -20,7 +20,7 @@ impl Model for WordText {
 
 impl WordText {
     /// A copy of a text.
-    pub fn from_str(alloc: Global, text: &str) -> Result<Self, Memory>
+    pub(crate) fn copy_of(alloc: Global, text: &str) -> Result<Self, Memory>
         ensures { IfOk result (λ copy. copy ≡ text.now) }
     {
         let text = String::from_str(alloc, text)?;

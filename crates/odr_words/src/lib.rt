@@ -1,4 +1,7 @@
 //! The words of a command line, read as the job that they are.
+//!
+//! A test of the crate's own says first which words are a job, since some that clap would take are none.
+//! clap then splits those that are, and the crate reads the numbers.
 #![tactic(auto)]
 
 mod command;

@@ -14,12 +14,12 @@ use odr_list::memory::Memory;
 use std::alloc::Global;
 
 /// A copy of a text that may be absent.
-fn copy_of(alloc: Global, text: Option<&str>) -> Result<Option<WordText>, Memory>
+fn optional_copy(alloc: Global, text: Option<&str>) -> Result<Option<WordText>, Memory>
     ensures { IfOk result (λ copy. copy ≡ option_map (λ t. t.now) text.entry) }
 {
     match text {
         None => Ok(None),
-        Some(text) => Ok(Some(WordText::from_str(alloc, text)?)),
+        Some(text) => Ok(Some(WordText::copy_of(alloc, text)?)),
     }
 }
 
@@ -63,7 +63,8 @@ pub fn fits(command: Command, given: &Given<'_>) -> bool
 {
     let options = &given.options;
     match (command, given.positionals) {
-        (Command::Record, Positionals::Two(..)) => seed(options).is_some() && limit(options).is_some(),
+        (Command::Record, Positionals::Two(..)) => seed(options).is_some()
+            && limit(options).is_some(),
         (Command::Infer, Positionals::Three(..)) => steps(options).is_some(),
         (Command::Check, Positionals::Three(..)) => true,
         (Command::Replay, Positionals::Three(..)) => true,
@@ -91,11 +92,11 @@ fn record(
         return Err(WordsFault::Bad);
     };
     Ok(Job::Record {
-        elf: WordText::from_str(alloc, elf)?,
-        log: WordText::from_str(alloc, log)?,
+        elf: WordText::copy_of(alloc, elf)?,
+        log: WordText::copy_of(alloc, log)?,
         seed,
         limit,
-        input: copy_of(alloc, options.input)?,
+        input: optional_copy(alloc, options.input)?,
     })
 }
 
@@ -113,9 +114,9 @@ fn infer(
         return Err(WordsFault::Bad);
     };
     Ok(Job::Infer {
-        elf: WordText::from_str(alloc, elf)?,
-        log: WordText::from_str(alloc, log)?,
-        out: WordText::from_str(alloc, out)?,
+        elf: WordText::copy_of(alloc, elf)?,
+        log: WordText::copy_of(alloc, log)?,
+        out: WordText::copy_of(alloc, out)?,
         steps,
     })
 }
@@ -131,9 +132,9 @@ fn check(
         return Err(WordsFault::Bad);
     };
     Ok(Job::Check {
-        elf: WordText::from_str(alloc, elf)?,
-        log: WordText::from_str(alloc, log)?,
-        cert: WordText::from_str(alloc, cert)?,
+        elf: WordText::copy_of(alloc, elf)?,
+        log: WordText::copy_of(alloc, log)?,
+        cert: WordText::copy_of(alloc, cert)?,
     })
 }
 
@@ -148,9 +149,9 @@ fn replay(
         return Err(WordsFault::Bad);
     };
     Ok(Job::Replay {
-        elf: WordText::from_str(alloc, elf)?,
-        log: WordText::from_str(alloc, log)?,
-        sched: WordText::from_str(alloc, sched)?,
+        elf: WordText::copy_of(alloc, elf)?,
+        log: WordText::copy_of(alloc, log)?,
+        sched: WordText::copy_of(alloc, sched)?,
     })
 }
 
@@ -165,9 +166,9 @@ fn debug(
         return Err(WordsFault::Bad);
     };
     Ok(Job::Debug {
-        elf: WordText::from_str(alloc, elf)?,
-        log: WordText::from_str(alloc, log)?,
-        sched: WordText::from_str(alloc, sched)?,
+        elf: WordText::copy_of(alloc, elf)?,
+        log: WordText::copy_of(alloc, log)?,
+        sched: WordText::copy_of(alloc, sched)?,
     })
 }
 
@@ -178,8 +179,8 @@ fn asm(alloc: Global, words: Positionals<'_>, options: OptionValues<'_>) -> Resu
         return Err(WordsFault::Bad);
     };
     Ok(Job::Asm {
-        text: WordText::from_str(alloc, text)?,
-        elf: WordText::from_str(alloc, elf)?,
+        text: WordText::copy_of(alloc, text)?,
+        elf: WordText::copy_of(alloc, elf)?,
     })
 }
 

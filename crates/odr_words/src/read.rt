@@ -4,10 +4,10 @@ ghost use Rattle.odr_words.specs.Read.{Reads, job_after};
 
 use crate::command::{Command, command_of};
 use crate::fault::WordsFault;
-use crate::reading::is_job;
-use crate::split::split;
 use crate::job::Job;
 use crate::making::job_with;
+use crate::reading::is_job;
+use crate::split::split;
 use std::alloc::Global;
 
 /// The job of words of which the first is a command's word.

@@ -12,8 +12,7 @@ use crate::word::{Word, word_of};
 /// What the words so far gave.
 #[derive(Clone, Copy, Debug)]
 pub struct Reading<'a> {
-    pub positionals: Positionals<'a>,
-    pub options: OptionValues<'a>,
+    pub given: Given<'a>,
     /// An option that still wants its value.
     pub awaiting: Option<&'a str>,
 }
@@ -23,27 +22,36 @@ impl<'a> Reading<'a> {
     fn after(self, command: Command, word: &'a str) -> Option<Reading<'a>>
         ensures { option_map seen_reading result ≡ after_word command (seen_reading self.entry) (word_of word.entry.now) }
     {
+        let given = self.given;
         match self.awaiting {
             Some(name) => match word_of(word) {
                 Word::Plain(value) => Some(Reading {
-                    options: self.options.with(command, name, value)?,
+                    given: Given {
+                        options: given.options.with(command, name, value)?,
+                        ..given
+                    },
                     awaiting: None,
-                    ..self
                 }),
                 _ => None,
             },
             None => match word_of(word) {
                 Word::Plain(text) => Some(Reading {
-                    positionals: self.positionals.with(text)?,
-                    ..self
+                    given: Given {
+                        positionals: given.positionals.with(text)?,
+                        ..given
+                    },
+                    awaiting: None,
                 }),
                 Word::NameValue(name, value) => Some(Reading {
-                    options: self.options.with(command, name, value)?,
-                    ..self
+                    given: Given {
+                        options: given.options.with(command, name, value)?,
+                        ..given
+                    },
+                    awaiting: None,
                 }),
                 Word::Name(name) => Some(Reading {
+                    given,
                     awaiting: Some(name),
-                    ..self
                 }),
                 Word::Neither => None,
             },
@@ -56,12 +64,14 @@ fn given_by(command: Command, words: &[String]) -> Option<Given<'_>>
     ensures { MatchOption result (IsNoJob command (map word_of (map string_bytes words.now))) (λ given. IsWhole command (seen_positionals given.positionals) (seen_values given.options) (map word_of (map string_bytes words.now))) }
 {
     let mut reading = Reading {
-        positionals: Positionals::Zero,
-        options: OptionValues {
-            seed: None,
-            limit: None,
-            steps: None,
-            input: None,
+        given: Given {
+            positionals: Positionals::Zero,
+            options: OptionValues {
+                seed: None,
+                limit: None,
+                steps: None,
+                input: None,
+            },
         },
         awaiting: None,
     };
@@ -69,10 +79,7 @@ fn given_by(command: Command, words: &[String]) -> Option<Given<'_>>
         reading = reading.after(command, word.as_str())?;
     }
     match reading.awaiting {
-        None => Some(Given {
-            positionals: reading.positionals,
-            options: reading.options,
-        }),
+        None => Some(reading.given),
         Some(_) => None,
     }
 }

@@ -55,7 +55,11 @@ fn matches<'a>(alloc: Global, words: &'a [String]) -> Result<ArgMatches<'a>, Err
 }
 
 /// The positional words at three places, of which the later are empty where an earlier is.
-fn words_at<'a>(first: Option<&'a str>, second: Option<&'a str>, third: Option<&'a str>) -> Positionals<'a>
+fn words_at<'a>(
+    first: Option<&'a str>,
+    second: Option<&'a str>,
+    third: Option<&'a str>,
+) -> Positionals<'a>
     ensures { seen_positionals result ≡ words_at (option_map (λ t. t.now) first.entry) (option_map (λ t. t.now) second.entry) (option_map (λ t. t.now) third.entry) }
 {
     match first {
@@ -71,13 +75,21 @@ fn words_at<'a>(first: Option<&'a str>, second: Option<&'a str>, third: Option<&
 }
 
 /// Splits the words of a job, the command among them. The only error is want of memory.
-pub fn split<'a>(alloc: Global, command: command::Command, words: &'a [String]) -> Result<Given<'a>, Memory>
+pub fn split<'a>(
+    alloc: Global,
+    command: command::Command,
+    words: &'a [String],
+) -> Result<Given<'a>, Memory>
     requires { is_some (job_after command (map string_bytes (drop 1 words.now))) ≡ true }
     ensures { IfOk result (λ given. job_after command (map string_bytes (drop 1 words.now)) ≡ job_with command (seen_positionals given.positionals) (value_in (seen_values given.options))) }
 {
     match matches(alloc, words) {
         Ok(found) => Ok(Given {
-            positionals: words_at(found.get_str("first"), found.get_str("second"), found.get_str("third")),
+            positionals: words_at(
+                found.get_str("first"),
+                found.get_str("second"),
+                found.get_str("third"),
+            ),
             options: OptionValues {
                 seed: found.get_str("seed"),
                 limit: found.get_str("limit"),

@@ -1,8 +1,7 @@
-use Rattle.std.proofs.Common.{rules, ap, ap₂, true, ◌≡◌, ◌∙◌, map}
+use Rattle.std.proofs.Common.{ap, ◌∙◌, map}
 use Rattle.std.proofs.lemmas.Result.{IfErr-weaker}
 use Rattle.std.specs.String.{string_bytes}
 use Rattle.clap.specs.Takes.{takes}
-use Rattle.odr_words.proofs.SplitLemmas.{splits}
 use Rattle.odr_words.proofs.split.matches.Goals as goal
 
 pub returns-clause-passes : goal.returns-clause-passes

@@ -11,7 +11,7 @@ returns c =
     let second_is : rule_of c.new-second.result ≡ new_rule (codes "second") = search rules in
     let third_is : rule_of c.new-third.result ≡ new_rule (codes "third") = search rules in
     let bare_is : app_of c.disable_help_flag-bare.result ≡ bare_app =
-        ap app_of_fields c.disable_help_flag-bare.ensures ∙ ap (on_top (λ s. record s { disable_help_flag = true })) c.new.ensures.app in
+    ap app_of_fields c.disable_help_flag-bare.ensures ∙ ap (on_top (λ s. record s { disable_help_flag = true })) c.new.ensures.app in
     let one = c.in_ok-arg.ensures.shape (search rules) ∙ ap₂ with_rule bare_is first_is in
     let two = c.in_ok-arg-2.ensures.shape (search rules) ∙ ap₂ with_rule one second_is in
     IfOk-weaker c.arg-3.result _ _ (λ r h. h.shape (search rules) ∙ ap₂ with_rule two third_is) c.arg-3.ensures
