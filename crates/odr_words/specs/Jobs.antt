@@ -14,6 +14,7 @@ found >>= next = option_and_then next found
 
 -- ---- the commands
 
+-- the words that name them
 abbrev pub commands : List (Text × Command)
 commands = (codes "record", command.Record) ∷ (codes "infer", command.Infer)
     ∷ (codes "check", command.Check) ∷ (codes "replay", command.Replay)
@@ -51,6 +52,7 @@ job_with other positionals value = None
 abbrev pub takes : Command → Options → Bool
 takes command options = are_known (options_of command) options && are_distinct options
 
+-- the job of a command's arguments
 abbrev pub job_given : Command → Arguments → Option Job
 job_given command given =
     if takes command given.options

@@ -31,8 +31,8 @@ fn job_of(alloc: Global, words: &[String]) -> Result<Job, WordsFault>
     }
 }
 
-/// The job that the words of a command line are, without the program's name. Where they are no job
-/// no memory is taken.
+/// The job that the words of a command line are, without the program's name. `Bad` comes exactly where
+/// they are none, however little memory there is; a job may meet want of memory.
 pub fn read_words(alloc: Global, words: &[String]) -> Result<Job, WordsFault>
     ensures job { IfOk result (λ job. job_of (map string_bytes words.now) ≡ Some job) }
     ensures bad { IsErrOf result WordsFault.Bad ↔ (job_of (map string_bytes words.now) ≡ None) }
