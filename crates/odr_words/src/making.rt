@@ -59,7 +59,8 @@ fn size(text: &str) -> Option<u32>
 
 /// Whether a job has this many positional words, and numbers within their limits.
 pub fn fits(command: Command, given: &Given<'_>) -> bool
-    ensures { result ≡ is_some (job_with command (seen_positionals given.now.positionals) (value_in (seen_values given.now.options))) }
+    ensures { result ≡ is_some (job_with command (seen_positionals given.now.positionals)
+        (value_in (seen_values given.now.options))) }
 {
     let options = &given.options;
     match (command, given.positionals) {
@@ -80,7 +81,8 @@ fn record(
     words: Positionals<'_>,
     options: OptionValues<'_>,
 ) -> Result<Job, WordsFault>
-    ensures { Reads (job_with Command.Record (seen_positionals words.entry) (value_in (seen_values options.entry))) result }
+    ensures { Reads (job_with Command.Record (seen_positionals words.entry)
+        (value_in (seen_values options.entry))) result }
 {
     let Positionals::Two(elf, log) = words else {
         return Err(WordsFault::Bad);
@@ -105,7 +107,8 @@ fn infer(
     words: Positionals<'_>,
     options: OptionValues<'_>,
 ) -> Result<Job, WordsFault>
-    ensures { Reads (job_with Command.Infer (seen_positionals words.entry) (value_in (seen_values options.entry))) result }
+    ensures { Reads (job_with Command.Infer (seen_positionals words.entry)
+        (value_in (seen_values options.entry))) result }
 {
     let Positionals::Three(elf, log, out) = words else {
         return Err(WordsFault::Bad);
@@ -126,7 +129,8 @@ fn check(
     words: Positionals<'_>,
     options: OptionValues<'_>,
 ) -> Result<Job, WordsFault>
-    ensures { Reads (job_with Command.Check (seen_positionals words.entry) (value_in (seen_values options.entry))) result }
+    ensures { Reads (job_with Command.Check (seen_positionals words.entry)
+        (value_in (seen_values options.entry))) result }
 {
     let Positionals::Three(elf, log, cert) = words else {
         return Err(WordsFault::Bad);
@@ -143,7 +147,8 @@ fn replay(
     words: Positionals<'_>,
     options: OptionValues<'_>,
 ) -> Result<Job, WordsFault>
-    ensures { Reads (job_with Command.Replay (seen_positionals words.entry) (value_in (seen_values options.entry))) result }
+    ensures { Reads (job_with Command.Replay (seen_positionals words.entry)
+        (value_in (seen_values options.entry))) result }
 {
     let Positionals::Three(elf, log, sched) = words else {
         return Err(WordsFault::Bad);
@@ -160,7 +165,8 @@ fn debug(
     words: Positionals<'_>,
     options: OptionValues<'_>,
 ) -> Result<Job, WordsFault>
-    ensures { Reads (job_with Command.Debug (seen_positionals words.entry) (value_in (seen_values options.entry))) result }
+    ensures { Reads (job_with Command.Debug (seen_positionals words.entry)
+        (value_in (seen_values options.entry))) result }
 {
     let Positionals::Three(elf, log, sched) = words else {
         return Err(WordsFault::Bad);
@@ -173,7 +179,8 @@ fn debug(
 }
 
 fn asm(alloc: Global, words: Positionals<'_>, options: OptionValues<'_>) -> Result<Job, WordsFault>
-    ensures { Reads (job_with Command.Asm (seen_positionals words.entry) (value_in (seen_values options.entry))) result }
+    ensures { Reads (job_with Command.Asm (seen_positionals words.entry)
+        (value_in (seen_values options.entry))) result }
 {
     let Positionals::Two(text, elf) = words else {
         return Err(WordsFault::Bad);
@@ -185,7 +192,8 @@ fn asm(alloc: Global, words: Positionals<'_>, options: OptionValues<'_>) -> Resu
 }
 
 fn demo(words: Positionals<'_>, options: OptionValues<'_>) -> Result<Job, WordsFault>
-    ensures { Reads (job_with Command.Demo (seen_positionals words.entry) (value_in (seen_values options.entry))) result }
+    ensures { Reads (job_with Command.Demo (seen_positionals words.entry)
+        (value_in (seen_values options.entry))) result }
 {
     let Positionals::One(number) = words else {
         return Err(WordsFault::Bad);
@@ -198,7 +206,8 @@ fn demo(words: Positionals<'_>, options: OptionValues<'_>) -> Result<Job, WordsF
 
 /// The job of a command with what was given after it.
 pub fn job_with(alloc: Global, command: Command, given: &Given<'_>) -> Result<Job, WordsFault>
-    ensures { Reads (job_with command (seen_positionals given.now.positionals) (value_in (seen_values given.now.options))) result }
+    ensures { Reads (job_with command (seen_positionals given.now.positionals)
+        (value_in (seen_values given.now.options))) result }
 {
     let words = given.positionals;
     let options = given.options;

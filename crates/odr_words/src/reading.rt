@@ -61,7 +61,9 @@ impl<'a> Reading<'a> {
 
 /// What the words after the command give, if each may stand where it does.
 fn given_by(command: Command, words: &[String]) -> Option<Given<'_>>
-    ensures { MatchOption result (IsNoJob command (map word_of (map string_bytes words.now))) (λ given. IsWhole command (seen_positionals given.positionals) (seen_values given.options) (map word_of (map string_bytes words.now))) }
+    ensures { let all = map word_of (map string_bytes words.now) in
+        MatchOption result (IsNoJob command all)
+        (λ given. IsWhole command (seen_positionals given.positionals) (seen_values given.options) all) }
 {
     let mut reading = Reading {
         given: Given {

@@ -60,7 +60,8 @@ fn words_at<'a>(
     second: Option<&'a str>,
     third: Option<&'a str>,
 ) -> Positionals<'a>
-    ensures { seen_positionals result ≡ words_at (option_map (λ t. t.now) first.entry) (option_map (λ t. t.now) second.entry) (option_map (λ t. t.now) third.entry) }
+    ensures { seen_positionals result ≡ words_at (option_map (λ t. t.now) first.entry)
+        (option_map (λ t. t.now) second.entry) (option_map (λ t. t.now) third.entry) }
 {
     match first {
         None => Positionals::Zero,
@@ -81,7 +82,8 @@ pub fn split<'a>(
     words: &'a [String],
 ) -> Result<Given<'a>, Memory>
     requires { is_some (job_after command (map string_bytes (drop 1 words.now))) ≡ true }
-    ensures { IfOk result (λ given. job_after command (map string_bytes (drop 1 words.now)) ≡ job_with command (seen_positionals given.positionals) (value_in (seen_values given.options))) }
+    ensures { IfOk result (λ given. job_after command (map string_bytes (drop 1 words.now))
+        ≡ job_with command (seen_positionals given.positionals) (value_in (seen_values given.options))) }
 {
     match matches(alloc, words) {
         Ok(found) => Ok(Given {
