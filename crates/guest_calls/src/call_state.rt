@@ -106,6 +106,7 @@ impl CallState {
         ensures shared { self.new ≡ calls_after self.old tid args.a0 (call_of result.note) }
         ensures memory { Stands (cells_of mem.old) (call_writes args.a0 (call_of result.note)) (cells_of mem.new) }
         ensures after { result.after ≡ after_of args.a1 (call_of result.note) }
+        ensures room { HasRoom self.old (call_of result.note) }
     {
         let note = self.note(tid, args, mem);
         let a0 = answer_of(tid, self.join_value(args), &note, args.a0);

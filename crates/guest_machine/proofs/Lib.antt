@@ -1,0 +1,5 @@
+pub mod SpanLemmas
+pub mod RanLemmas
+pub mod StepLemmas
+pub mod BlockedLemmas
+pub mod StandsLemmas

@@ -1,0 +1,5 @@
+pub mod Notes
+pub mod Ran
+pub mod Spans
+pub mod Hearing
+pub mod Whole

@@ -1,0 +1,15 @@
+//! The guest machine: eight threads over one memory, changed in place one atomic step at a time.
+#![tactic(auto)]
+
+mod after;
+mod alone;
+pub mod machine;
+mod memory_access;
+pub mod note;
+mod run;
+mod span;
+#[cfg(test)]
+mod tests;
+mod threads;
+
+pub use odr_list::memory::Memory;

@@ -1,0 +1,242 @@
+//! The machine: its threads over one memory, changed in place by one atomic step at a time.
+
+ghost use Rattle.std.specs.Prelude.{◌≡◌, ℕ, ◌+◌, ◌<◌, ◌^◌, ◌≤◌, [], List, length, true, is_some, is_none, slice_index_or, IfOk, IsTrue, IsFalse};
+ghost use Rattle.guest_mem.specs.Accesses.{byte_of};
+ghost use Rattle.guest_mem.specs.Blocks.{cells_of};
+ghost use Rattle.rv_model.specs.declared.state.State.{State};
+ghost use Rattle.rv32_decode.specs.Valid.{IsValid};
+ghost use Rattle.rv_model.specs.Thread.{register};
+ghost use Rattle.rv_model.specs.Calls.{made, waits, owner_of};
+ghost use Rattle.rv_model.specs.Instruction.{act, asked_at, asked_by, access_of, reserving};
+ghost use Rattle.rv_model.specs.Step.{thread_at, memory_of, opening, effect, applied, faulted, instr_at, next_instr, reach_at, reach_of};
+ghost use Rattle.guest_calls.specs.Table.{is_live};
+ghost use Rattle.guest_machine.specs.Hearing.{heard_of};
+ghost use Rattle.guest_machine.specs.Whole.{StandsFor, Steps, Follows, may_step};
+
+use crate::after::{child_of, go_on, halt_then, reserving, wins};
+use crate::note::Note;
+use crate::run::{args_of, run};
+use crate::span::written;
+use crate::threads::Threads;
+use elf_image::image::Image;
+use guest_calls::call_state::CallState;
+use guest_mem::guest_memory::GuestMem;
+use odr_list::memory::Memory;
+use odr_log::log::Cause;
+use rv_model::state::{Halt, Local, Thread};
+use rv32_decode::decode;
+use rv32_decode::instr::Instr;
+use std::alloc::Global;
+use std::marker::Model;
+
+/// A machine over an image: eight threads at most, the state that their calls share, and memory.
+#[derive(Drop)]
+pub struct Machine<'a> {
+    image: &'a Image,
+    memory: GuestMem,
+    threads: Threads,
+    calls: CallState,
+    halt: Option<Halt>,
+}
+
+impl<'a> Model for Machine<'a> {
+    ghost use Rattle.std.specs.Prelude.{◌≡◌, length};
+    ghost use Rattle.rv_model.specs.Thread.{register};
+    ghost use Rattle.rv_model.specs.Calls.{made};
+    ghost use Rattle.guest_machine.specs.Whole.{Whole};
+
+    ghost Value = { Whole };
+
+    ghost view = { λ m. record { image = m.image.now; core = record { threads = m.threads; calls = m.calls; halt = m.halt }; blocks = m.memory } };
+
+    ghost invariant = { λ m. length m.threads ≡ made m.calls };
+}
+
+impl<'a> Machine<'a> {
+    /// The machine before its first step, over an input. No later call takes memory.
+    ///
+    /// # Errors
+    ///
+    /// `Memory` alone.
+    pub fn load(alloc: Global, image: &'a Image, tape: Vec<u8>) -> Result<Machine<'a>, Memory>
+        ensures image { IfOk result (λ machine. machine.image ≡ image.now) }
+        ensures opening { IfOk result (λ machine. StandsFor machine (opening image.now tape.items)) }
+    {
+        let memory = GuestMem::load(alloc, image)?;
+        let threads = Threads::of_first(alloc, Thread::fresh(Local::first(image.entry())))?;
+        Ok(Machine {
+            image,
+            memory,
+            threads,
+            calls: CallState::new(alloc, tape),
+            halt: None,
+        })
+    }
+
+    /// Whether a thread whose next instruction is a guest call waits in it.
+    #[tactic(auto, using(crate::proofs::BlockedLemmas::blocked_there), unfolding(rv_model::specs::Instruction::asked_by))]
+    fn is_blocked(&self, tid: u8) -> bool
+        requires { tid < length self.now.core.threads }
+        ensures { result ≡ waits self.now.core.calls tid (asked_at (thread_at self.now.core tid).local (next_instr self.now.image self.now.core tid) (reach_at self.now.image (cells_of self.now.blocks) self.now.core tid)) }
+    {
+        let local = self.threads.get(tid).local;
+        match instr_at(self.image, local.pc) {
+            Ok(Instr::Ecall) => self.calls.blocked(tid, args_of(&local)),
+            _ => false,
+        }
+    }
+
+    /// Whether a thread may step: it was made and has not ended, no lock or join holds it up, and the machine
+    /// has not halted.
+    #[tactic(auto, unfolding(rv_model::specs::Step::enabled))]
+    pub fn enabled(&self, tid: u8) -> bool
+        ensures { result ≡ may_step self.now tid }
+    {
+        (tid as usize) < self.threads.len()
+            && self.calls.end_value(u32::from(tid)).is_none()
+            && self.halt.is_none()
+            && !self.is_blocked(tid)
+    }
+
+    /// Does the instruction that a thread is at.
+    #[tactic(auto, using(crate::proofs::StepLemmas::executed))]
+    fn execute(&mut self, tid: u8, before: Thread, instr: &Instr) -> Note
+        requires valid { IsValid instr.now }
+        requires thread { before ≡ thread_at self.old.core tid }
+        requires live { IsTrue (is_live self.old.core.calls tid) }
+        requires unblocked { IsFalse (waits self.old.core.calls tid (asked_by before.local instr.now (reach_of (cells_of self.old.blocks) (access_of before.local instr.now)))) }
+        requires room { before.retired + 1 < 2 ^ 32 }
+        ensures { Follows self.old (applied self.old.core tid (reserving before.local instr.now before.reservation) (act before.local instr.now (heard_of (cells_of self.old.blocks) self.old.core.calls tid before.reservation before.local instr.now))) result self.new }
+    {
+        let won = wins(&before, instr);
+        let mut local = before.local;
+        match run(
+            &mut local,
+            &mut self.memory,
+            &mut self.calls,
+            tid,
+            instr,
+            won,
+        ) {
+            Err(cause) => self.fault(tid, cause),
+            Ok(note) => {
+                let after = Thread {
+                    local,
+                    reservation: reserving(&before, instr),
+                    retired: before.retired + 1,
+                };
+                let span = written(&before.local, instr, won, &note);
+                let child = child_of(&before.local, &note);
+                go_on(&mut self.threads, tid, after, span, child);
+                self.halt = halt_then(tid, &note);
+                note
+            }
+        }
+    }
+
+    /// One atomic step of a thread that may step: one instruction with all its memory bytes and its whole
+    /// guest call. `effect` says it of the machine alone, `state` of every state of the model that the machine
+    /// stands for.
+    #[tactic(auto, using(crate::proofs::StandsLemmas::follows_steps))]
+    pub fn step(&mut self, tid: u8) -> Note
+        requires enabled { may_step self.old tid ≡ true }
+        requires room { (thread_at self.old.core tid).retired + 1 < 2 ^ 32 }
+        ensures effect { Follows self.old (effect self.old.image (cells_of self.old.blocks) self.old.core tid) result self.new }
+        ensures state { (before : State) → StandsFor self.old before → Steps before tid result self.new }
+    {
+        self.step_once(tid)
+    }
+
+    /// Whether the machine has halted.
+    pub fn halted(&self) -> bool
+        ensures { result ≡ is_some self.now.core.halt }
+    {
+        self.halt.is_some()
+    }
+
+    /// The number of threads that were made.
+    pub fn threads(&self) -> u8
+        ensures value { result ≡ length self.now.core.threads }
+        ensures few { result ≤ 8 }
+    {
+        self.threads.len() as u8
+    }
+
+    /// The number of instructions that a thread retired.
+    pub fn retired(&self, tid: u8) -> u32
+        requires { tid < length self.now.core.threads }
+        ensures { result ≡ (thread_at self.now.core tid).retired }
+    {
+        self.threads.get(tid).retired
+    }
+
+    /// The address of a thread's next instruction.
+    pub fn pc(&self, tid: u8) -> u32
+        requires { tid < length self.now.core.threads }
+        ensures { result ≡ (thread_at self.now.core tid).local.pc }
+    {
+        self.threads.get(tid).local.pc
+    }
+
+    /// A register of a thread.
+    pub fn reg(&self, tid: u8, number: u8) -> u32
+        requires thread { tid < length self.now.core.threads }
+        requires number { number < 32 }
+        ensures { result ≡ register (thread_at self.now.core tid).local number }
+    {
+        self.threads.get(tid).local.register(number)
+    }
+
+    /// The thread that holds a mutex.
+    pub fn owner(&self, mutex: u8) -> Option<u8>
+        requires { mutex < 32 }
+        ensures { result ≡ owner_of self.now.core.calls mutex }
+    {
+        self.calls.owner_of(u32::from(mutex))
+    }
+
+    /// The byte at an address. None outside the image's regions and the stacks.
+    pub fn byte(&self, address: u32) -> Option<u8>
+        ensures byte { result ≡ byte_of (cells_of self.now.blocks) address }
+        ensures state { (state : State) → StandsFor self.now state → result ≡ byte_of (memory_of self.now.image state) address }
+    {
+        self.memory.byte(address)
+    }
+
+    /// Does one step, in the terms of the model's effect.
+    #[tactic(auto, using(crate::proofs::StepLemmas::stepped), unfolding(rv_model::specs::Step::effect, rv_model::specs::Step::enabled))]
+    fn step_once(&mut self, tid: u8) -> Note
+        requires enabled { may_step self.old tid ≡ true }
+        requires room { (thread_at self.old.core tid).retired + 1 < 2 ^ 32 }
+        ensures { Follows self.old (effect self.old.image (cells_of self.old.blocks) self.old.core tid) result self.new }
+    {
+        let before = self.threads.get(tid);
+        match instr_at(self.image, before.local.pc) {
+            Err(cause) => self.fault(tid, cause),
+            Ok(instr) => self.execute(tid, before, &instr),
+        }
+    }
+
+    /// Halts the machine at a fault.
+    fn fault(&mut self, tid: u8, cause: Cause) -> Note
+        ensures { Follows self.old (faulted self.old.core tid cause) result self.new }
+    {
+        self.halt = Some(Halt::Faulted { tid, cause });
+        Note::Fault(cause)
+    }
+}
+
+/// The instruction at an address, or why there is none.
+#[tactic(auto, unfolding(rv_model::specs::Step::instr_at))]
+fn instr_at(image: &Image, pc: u32) -> Result<Instr, Cause>
+    ensures value { result ≡ instr_at image.now pc }
+    ensures valid { IfOk result IsValid }
+{
+    match image.fetch(pc) {
+        None => Err(Cause::FetchFault),
+        Some(word) => match decode(word) {
+            None => Err(Cause::Illegal),
+            Some(instr) => Ok(instr),
+        },
+    }
+}
