@@ -1,0 +1,10 @@
+pub mod Assembly
+pub mod Draft
+pub mod File
+pub mod Line
+pub mod Names
+pub mod Numbers
+pub mod Operands
+pub mod Reading
+pub mod Seen
+pub mod Statement
