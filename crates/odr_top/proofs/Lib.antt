@@ -1,5 +1,3 @@
-pub mod SimpleLemmas
-pub mod Stages
-pub mod MadeLines
 pub mod OneVerdict
-pub mod CutCalls
+pub mod Loading
+pub mod Ends

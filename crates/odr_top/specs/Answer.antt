@@ -7,80 +7,126 @@ use Rattle.elf_image.specs.Layout.{Layout}
 use Rattle.elf_image.specs.Checks.{IsImage}
 use Rattle.odr_log.specs.declared.log.Log.{Log}
 use Rattle.odr_log.specs.Grammar.{IsLog}
-use Rattle.sched_text.specs.Text.{schedule_text}
+use Rattle.odr_words.specs.declared.job.Job.{Job}
+use Rattle.odr_words.specs.declared.job.Job.TheVariants as job
+use Rattle.rv32_asm.specs.File.{AsmFile}
 use Rattle.rv_model.specs.Run.{HasLog}
-use Rattle.odr_top.specs.Words.{Files}
-use Rattle.odr_top.specs.Verdict.{Verdict, NoFile, Explained, Owes}
-use Rattle.odr_top.specs.Lines.{status_of, run_line, out_text, err_text, memory_line, device_line}
+use Rattle.sched_text.specs.Text.{schedule_text}
+use Rattle.odr_top.specs.Verdict.{Verdict, status_of, run_line, size_line, out_text, err_text, saved_text, memory_line, device_line}
+use Rattle.odr_top.specs.Owes.{OwesWords, saves, AnswersWords}
+use Rattle.odr_top.specs.Done.{Finishes}
 
--- The store held an image and a log, and a schedule that has the log.
-pub record IsExplained (held : Held) (files : Files) (schedule : List ℕ) : Type 0 where
-  pub program : List ℕ
-  pub recording : List ℕ
-  pub program_held : held_at held files.elf ≡ Some program
-  pub recording_held : held_at held files.log ≡ Some recording
-  pub image : Layout
-  pub log : Log
-  pub is_image : IsImage program image
-  pub is_log : IsLog recording log
-  pub has_log : HasLog image log schedule
+-- ---- files
 
--- Where the store tells what it holds, the file holds the text of a schedule that has the log.
-abbrev pub HoldsSchedule : Option Held → Option Held → Files → List ℕ → Type 0
-HoldsSchedule before after files schedule = IfSome before (λ held. IsExplained held files schedule) × Holds after files.out (schedule_text schedule)
+-- the file that the words' job saves
+abbrev pub saved_name : Option Job → Option (List ℕ)
+saved_name None = None
+saved_name (Some j) = saves j
 
-abbrev pub OutHoldsSchedule : Option Held → Option Held → Option Files → Type 0
-OutHoldsSchedule before after None = ⊥
-OutHoldsSchedule before after (Some files) = (schedule : List ℕ) × HoldsSchedule before after files schedule
+-- All names but that of the saved file hold what they held.
+abbrev pub KeepsName : Option Held → Option Held → Option (List ℕ) → Type 0
+KeepsName before after None = after ≡ before
+KeepsName before after (Some name) = KeepsOthers before after name
 
--- A schedule was found: the file holds its text, its line was printed, and no other is owed.
-pub record FoundRun (before after : Option Held) (files : Files) (out_before out_after : Option (List ℕ)) : Type 0 where
-  pub schedule : List ℕ
-  pub held : HoldsSchedule before after files schedule
-  pub owed : IfSome before (λ h. Owes h (Some files) (Explained schedule))
-  pub printed : out_after ≡ append_known out_before (run_line (length schedule))
+abbrev pub KeepsInputs : Option Held → Option Held → Option Job → Type 0
+KeepsInputs before after words = KeepsName before after (saved_name words)
 
-abbrev pub InferredRun : Option Held → Option Held → Option Files → Option (List ℕ) → Option (List ℕ) → Type 0
-InferredRun before after None out_before out_after = ⊥
-InferredRun before after (Some files) out_before out_after = FoundRun before after files out_before out_after
+-- A verdict's text is under the job's name. A verdict without a text leaves every file as it was.
+abbrev pub LeavesText : Option Held → Option Held → Option (List ℕ) → Option (List ℕ) → Type 0
+LeavesText before after name None = after ≡ before
+LeavesText before after None (Some text) = ⊥
+LeavesText before after (Some name) (Some text) = Holds after name text
 
--- some schedule is owed
-abbrev pub OwesSchedule : Option Held → Option Files → Type 0
-OwesSchedule held files = (schedule : List ℕ) × IfSome held (λ h. Owes h files (Explained schedule))
+abbrev pub Leaves : Option Held → Option Held → Option Job → Verdict → Type 0
+Leaves before after words verdict = LeavesText before after (saved_name words) (saved_text verdict)
 
--- All names but that of the schedule hold what they held.
-abbrev pub KeepsInputs : Option Held → Option Held → Option Files → Type 0
-KeepsInputs before after None = after ≡ before
-KeepsInputs before after (Some files) = KeepsOthers before after files.out
+-- ---- a call that came to an end
 
--- a file that is missing is one that is loaded
-abbrev pub IsNamed : Option Files → Verdict → Type 0
-IsNamed (Some files) (NoFile name) = (name ≡ files.elf) ⊎ (name ≡ files.log)
-IsNamed None (NoFile name) = ⊥
-IsNamed files other = Unit {0}
-
--- A call that came to an end owed its verdict, and printed that verdict's lines and no others.
-pub record Concluded (held : Option Held) (files : Option Files) (status : ℕ) (out_before out_after err_before err_after : Option (List ℕ)) : Type 0 where
+-- It had a verdict that it owes where the store tells what it holds, left that verdict's file and no other, and printed
+-- that verdict's lines and no others.
+pub record Concluded (before after : Option Held) (words : Option Job) (status : ℕ) (out_before out_after err_before err_after : Option (List ℕ)) : Type 0 where
   pub verdict : Verdict
   pub status_is : status ≡ status_of verdict
-  pub owed : IfSome held (λ h. Owes h files verdict)
-  pub named : IsNamed files verdict
+  pub answers : AnswersWords words verdict
+  pub owed : IfSome before (λ held. OwesWords held words verdict)
+  pub leaves : Leaves before after words verdict
   pub out_is : out_after ≡ append_known out_before (out_text verdict)
   pub err_is : err_after ≡ append_known err_before (err_text verdict)
 
--- a line that may go to err: want of memory, a fault, or what is owed
-abbrev pub IsErrLine : Option Held → Option Files → List ℕ → Type 0
-IsErrLine held files text = (text ≡ memory_line) ⊎ ((text ≡ device_line) ⊎ ((verdict : Verdict) × (text ≡ err_text verdict) × IfSome held (λ h. Owes h files verdict)))
+-- The store held an image and a log, and a schedule that has the log.
+pub record IsExplained (held : Held) (elf log : List ℕ) (schedule : List ℕ) : Type 0 where
+  pub program : List ℕ
+  pub recording : List ℕ
+  pub program_held : held_at held elf ≡ Some program
+  pub recording_held : held_at held log ≡ Some recording
+  pub image : Layout
+  pub meaning : Log
+  pub is_image : IsImage program image
+  pub is_log : IsLog recording meaning
+  pub has_log : HasLog image meaning schedule
 
--- a front of the run's line of a schedule that is owed
-pub record PartOfRun (held : Option Held) (files : Option Files) (before after : Option (List ℕ)) : Type 0 where
+-- A schedule was found: where the store tells what it holds, the file holds the schedule's text; its line was printed.
+pub record FoundRun (before after : Option Held) (elf log out : List ℕ) (out_before out_after : Option (List ℕ)) : Type 0 where
   pub schedule : List ℕ
-  pub owed : IfSome held (λ h. Owes h files (Explained schedule))
-  pub out_is : AppendsPrefix before after (run_line (length schedule))
+  pub explained : IfSome before (λ held. IsExplained held elf log schedule)
+  pub saved : Holds after out (schedule_text schedule)
+  pub printed : out_after ≡ append_known out_before (run_line (length schedule))
 
--- A call that was cut short printed nothing to out or a front of the line that is owed, and a front of one line to err.
-pub record CutShort (held : Option Held) (files : Option Files) (out_before out_after err_before err_after : Option (List ℕ)) : Type 0 where
-  pub out_is : (out_after ≡ out_before) ⊎ PartOfRun held files out_before out_after
+abbrev pub InferredRun : Option Held → Option Held → Option Job → Option (List ℕ) → Option (List ℕ) → Type 0
+InferredRun before after (Some (job.Infer elf log out steps)) out_before out_after = FoundRun before after elf log out out_before out_after
+InferredRun before after other out_before out_after = Unit {0}
+
+-- the store held a text of which these bytes are the program
+pub record IsAssembled (held : Held) (name file : List ℕ) : Type 0 where
+  pub text : List ℕ
+  pub text_held : held_at held name ≡ Some text
+  pub is_file : AsmFile text file
+
+-- A text was assembled: the file holds the program, and its line was printed.
+pub record MadeProgram (before after : Option Held) (text elf : List ℕ) (out_before out_after : Option (List ℕ)) : Type 0 where
+  pub file : List ℕ
+  pub assembled : IfSome before (λ held. IsAssembled held text file)
+  pub saved : Holds after elf file
+  pub printed : out_after ≡ append_known out_before (size_line (length file))
+
+abbrev pub Assembled : Option Held → Option Held → Option Job → Option (List ℕ) → Option (List ℕ) → Type 0
+Assembled before after (Some (job.Asm text elf)) out_before out_after = MadeProgram before after text elf out_before out_after
+Assembled before after other out_before out_after = Unit {0}
+
+-- ---- a call that was cut short
+
+-- a verdict of status 0 of the words
+abbrev pub FinishesWords : Option Held → Option Job → Verdict → Type 0
+FinishesWords told None verdict = ⊥
+FinishesWords told (Some j) verdict = Finishes told j verdict
+
+abbrev pub MayFinish : Option Held → Option Job → Type 0
+MayFinish told words = (verdict : Verdict) × FinishesWords told words verdict
+
+-- A job was done with such a verdict: its file was left, and its lines were printed.
+pub record Finished (before after : Option Held) (words : Option Job) (out_before out_after : Option (List ℕ)) : Type 0 where
+  pub verdict : Verdict
+  pub finishes : FinishesWords before words verdict
+  pub leaves : Leaves before after words verdict
+  pub out_is : out_after ≡ append_known out_before (out_text verdict)
+
+-- the file of such a verdict was saved
+abbrev pub HasSavedWhole : Option Held → Option Held → Option Job → Type 0
+HasSavedWhole before after words = (verdict : Verdict) × FinishesWords before words verdict × Leaves before after words verdict
+
+-- a front of what such a verdict prints
+abbrev pub PartOfOut : Option Held → Option Job → Option (List ℕ) → Option (List ℕ) → Type 0
+PartOfOut told words out_before out_after = (verdict : Verdict) × FinishesWords told words verdict × AppendsPrefix out_before out_after (out_text verdict)
+
+-- a line that may go to err: want of memory, a fault, or what is owed
+abbrev pub IsErrLine : Option Held → Option Job → List ℕ → Type 0
+IsErrLine told words text =
+    (text ≡ memory_line) ⊎ ((text ≡ device_line)
+    ⊎ ((verdict : Verdict) × (text ≡ err_text verdict) × AnswersWords words verdict × IfSome told (λ held. OwesWords held words verdict)))
+
+-- A call that was cut short printed nothing to out or a front of what is owed, and a front of one line to err.
+pub record CutShort (told : Option Held) (words : Option Job) (out_before out_after err_before err_after : Option (List ℕ)) : Type 0 where
+  pub out_is : (out_after ≡ out_before) ⊎ PartOfOut told words out_before out_after
   pub line : List ℕ
-  pub is_line : IsErrLine held files line
+  pub is_line : IsErrLine told words line
   pub err_is : AppendsPrefix err_before err_after line

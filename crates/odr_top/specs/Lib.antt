@@ -1,9 +1,8 @@
-pub mod Words
-pub mod Simple
 pub mod Verdict
-pub mod Lines
-pub mod Answer
-pub mod Named
+pub mod Inputs
+pub mod Owes
 pub mod Refused
-pub mod Saved
 pub mod Report
+pub mod Loaded
+pub mod Done
+pub mod Answer

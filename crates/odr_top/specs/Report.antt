@@ -4,9 +4,8 @@ use Rattle.std.specs.Io.KnownBytes.{append_known}
 use Rattle.odr_io.specs.Written.{AppendsPrefix}
 use Rattle.odr_top.specs.declared.refusal.Refusal.{Refusal}
 use Rattle.odr_top.specs.declared.refusal.Refusal.TheVariants as refusal
-use Rattle.odr_top.specs.Verdict.{Verdict}
-use Rattle.odr_top.specs.Refused.{verdict_of}
-use Rattle.odr_top.specs.Lines.{status_of, err_text, memory_line, device_line}
+use Rattle.odr_top.specs.Verdict.{Verdict, status_of, err_text, memory_line}
+use Rattle.odr_top.specs.Refused.{verdict_of, line_of}
 
 -- a store or a sink failed, or memory was wanting
 abbrev pub IsOutside : Refusal → Type 0
@@ -21,15 +20,9 @@ pub record Reported (given : Refusal) (status : ℕ) (before after : Option (Lis
   pub status_is : status ≡ status_of verdict
   pub err_is : after ≡ append_known before (err_text verdict)
 
--- a line that a refusal may print: its own, a fault's, or that of wanting memory
-abbrev pub IsLineOf : Refusal → List ℕ → Type 0
-IsLineOf given text = (text ≡ memory_line) ⊎ ((text ≡ device_line) ⊎ ((verdict : Verdict) × (text ≡ err_text verdict) × (verdict_of given ≡ Some verdict)))
-
--- a front of one line
-pub record PartOfLine (given : Refusal) (before after : Option (List ℕ)) : Type 0 where
-  pub line : List ℕ
-  pub is_line : IsLineOf given line
-  pub err_is : AppendsPrefix before after line
+-- a front of the refusal's line, or of that of wanting memory
+abbrev pub PartOfLine : Refusal → Option (List ℕ) → Option (List ℕ) → Type 0
+PartOfLine given before after = AppendsPrefix before after (line_of given) ⊎ AppendsPrefix before after memory_line
 
 -- a status that ends a call early
 abbrev pub IsCut : ℕ → Type 0

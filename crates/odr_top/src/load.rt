@@ -1,15 +1,19 @@
-ghost use Rattle.std.specs.Prelude.{◌≡◌, ◌≢◌, ◌≤◌, IfOk, IfErr, IfSome, IsErrOf, OnOk};
+ghost use Rattle.std.specs.Prelude.{◌≡◌, ◌≢◌, ◌≤◌, length, IfOk, IfErr, IsErrOf};
 ghost use Rattle.odr_io.specs.Outside.{Rose};
-ghost use Rattle.odr_log.specs.FirstForm.{IsFirstForm};
-ghost use Rattle.odr_top.specs.Saved.{load_refusal};
-ghost use Rattle.odr_top.specs.Refused.{GivesImage, GivesNoImage, GivesLog, GivesNoLog, Turned, NamesOnly};
+ghost use Rattle.odr_log.specs.Grammar.{IsValid};
+ghost use Rattle.odr_top.specs.Inputs.{IsProgram, NoProgram, IsRecording, NoRecording, IsSource, NoSource};
+ghost use Rattle.elf_image.specs.Fault.{check_of};
+ghost use Rattle.odr_top.specs.Loaded.{Found, Turned, GivesTold, RefusesTold, RefusesContent};
 
 use crate::refusal::Refusal;
+use elf_image::fault::{Check, ElfFault};
 use elf_image::image::Image;
 use odr_io::fail::LoadFail;
 use odr_io::files::Files;
+use odr_list::bytes::Bytes;
 use odr_log::log::Log;
-use odr_log::read_first;
+use odr_log::{LogFault, read_log};
+use rv32_asm::{AsmFault, assemble};
 use std::alloc::Global;
 
 /// The most bytes of a program's file.
@@ -18,65 +22,150 @@ const ELF_LIMIT: u64 = 16_777_216;
 /// The most bytes of a log's file.
 const LOG_LIMIT: u64 = 67_108_864;
 
-/// What a failed load refuses as.
-fn refusal_of<'a>(fail: LoadFail, name: &'a str) -> Refusal<'a>
-    ensures { result ≡ load_refusal fail name.entry }
+/// The most bytes of an assembly text.
+const SOURCE_LIMIT: u64 = 1_048_576;
+
+/// The bytes of a file. `too_long` is the refusal of one that has more than `limit`.
+fn load<'a, F: Files>(
+    alloc: Global,
+    files: &mut F,
+    name: &'a str,
+    limit: u64,
+    too_long: Refusal<'a>,
+) -> Result<Bytes, Refusal<'a>>
+    requires { too_long ≢ Refusal.Device }
+    ensures found { IfOk result (Found (F.held files.old) name.now limit) }
+    ensures refused { IfErr result (Turned (F.held files.old) name.entry limit too_long.entry) }
+    ensures kept { F.held files.new ≡ F.held files.old }
+    ensures failed { IsErrOf result Refusal.Device → Rose (F.faults files.old) (F.faults files.new) }
+    ensures steady { result ≢ Err Refusal.Device → F.faults files.new ≡ F.faults files.old }
 {
-    match fail {
-        LoadFail::Absent => Refusal::NoFile(name),
-        LoadFail::TooLong => Refusal::NotBuilt,
-        LoadFail::Failed => Refusal::Device,
-        LoadFail::Memory => Refusal::Memory,
+    let mut bytes = Vec::new(alloc);
+    match files.load(alloc, name, limit, &mut bytes) {
+        Ok(()) => Ok(Bytes::of(bytes)),
+        Err(LoadFail::Absent) => Err(Refusal::NoFile(name)),
+        Err(LoadFail::TooLong) => Err(too_long),
+        Err(LoadFail::Failed) => Err(Refusal::Device),
+        Err(LoadFail::Memory) => Err(Refusal::Memory),
     }
 }
 
-/// The image of a program's file of the plain form.
+/// The check that a fault names, or none for want of memory.
+fn check_of(fault: ElfFault) -> Option<Check>
+    ensures { result ≡ check_of fault }
+{
+    match fault {
+        ElfFault::Short => Some(Check::Short),
+        ElfFault::Magic => Some(Check::Magic),
+        ElfFault::Class => Some(Check::Class),
+        ElfFault::Kind => Some(Check::Kind),
+        ElfFault::Machine => Some(Check::Machine),
+        ElfFault::Compressed => Some(Check::Compressed),
+        ElfFault::Headers => Some(Check::Headers),
+        ElfFault::Dynamic => Some(Check::Dynamic),
+        ElfFault::NoLoad => Some(Check::NoLoad),
+        ElfFault::TooManyLoads => Some(Check::TooManyLoads),
+        ElfFault::Range => Some(Check::Range),
+        ElfFault::WritableCode => Some(Check::WritableCode),
+        ElfFault::Overlap => Some(Check::Overlap),
+        ElfFault::TooLarge => Some(Check::TooLarge),
+        ElfFault::EntryOutside => Some(Check::EntryOutside),
+        ElfFault::Memory => None,
+    }
+}
+
+/// The image that a program's bytes give.
+fn image_in<'a>(alloc: Global, bytes: &[u8]) -> Result<Image, Refusal<'a>>
+    requires { length bytes.now ≤ 16777216 }
+    ensures found { IfOk result (IsProgram bytes.now) }
+    ensures refused { IfErr result (RefusesContent NoProgram bytes.now) }
+    ensures no_fault { result ≢ Err Refusal.Device }
+{
+    match Image::read(alloc, bytes) {
+        Ok(image) => Ok(image),
+        Err(fault) => match check_of(fault) {
+            Some(check) => Err(Refusal::BadElf(check)),
+            None => Err(Refusal::Memory),
+        },
+    }
+}
+
+/// The valid log that bytes spell.
+fn log_in<'a>(alloc: Global, bytes: &[u8]) -> Result<Log, Refusal<'a>>
+    ensures found { IfOk result (IsRecording bytes.now) }
+    ensures refused { IfErr result (RefusesContent NoRecording bytes.now) }
+    ensures no_fault { result ≢ Err Refusal.Device }
+{
+    match read_log(alloc, bytes) {
+        Ok(log) => Ok(log),
+        Err(LogFault::Bad { offset }) => Err(Refusal::BadLog(offset)),
+        Err(LogFault::TooLarge) => Err(Refusal::LogTooLarge),
+        Err(LogFault::Memory) => Err(Refusal::Memory),
+    }
+}
+
+/// The program that an assembly text becomes.
+fn program_in<'a>(alloc: Global, text: &[u8]) -> Result<Bytes, Refusal<'a>>
+    requires { length text.now ≤ 1048576 }
+    ensures found { IfOk result (IsSource text.now) }
+    ensures refused { IfErr result (RefusesContent NoSource text.now) }
+    ensures no_fault { result ≢ Err Refusal.Device }
+{
+    match assemble(alloc, text) {
+        Ok(file) => Ok(Bytes::of(file)),
+        Err(AsmFault::BadLine { line }) => Err(Refusal::BadLine(line)),
+        Err(AsmFault::UnknownName { line }) => Err(Refusal::UnknownName(line)),
+        Err(AsmFault::TooLarge) => Err(Refusal::TextTooLarge),
+        Err(AsmFault::Memory) => Err(Refusal::Memory),
+    }
+}
+
+/// The image of a program's file.
 pub fn load_image<'a, F: Files>(
     alloc: Global,
     files: &mut F,
     name: &'a str,
 ) -> Result<Image, Refusal<'a>>
-    ensures found { IfOk result (λ image. IfSome (F.held files.old) (λ held. GivesImage held name.now image)) }
-    ensures refused { IfErr result (λ refusal. IfSome (F.held files.old) (λ held. Turned GivesNoImage held name.now refusal)) }
+    ensures found { IfOk result (GivesTold IsProgram (F.held files.old) name.now) }
+    ensures refused { IfErr result (RefusesTold NoProgram (F.held files.old) name.now) }
     ensures kept { F.held files.new ≡ F.held files.old }
     ensures failed { IsErrOf result Refusal.Device → Rose (F.faults files.old) (F.faults files.new) }
     ensures steady { result ≢ Err Refusal.Device → F.faults files.new ≡ F.faults files.old }
-    ensures a_job { result ≢ Err Refusal.BadWords }
-    ensures named { IfErr result (NamesOnly name.now) }
 {
-    let mut bytes = Vec::new(alloc);
-    if let Err(fail) = files.load(alloc, name, ELF_LIMIT, &mut bytes) {
-        return Err(refusal_of(fail, name));
-    }
-    match Image::read_plain(alloc, bytes.as_slice()) {
-        Ok(Some(image)) => Ok(image),
-        Ok(None) => Err(Refusal::NotBuilt),
-        Err(_) => Err(Refusal::Memory),
-    }
+    let too_long = Refusal::BadElf(Check::TooLarge);
+    let bytes = load(alloc, files, name, ELF_LIMIT, too_long)?;
+    image_in(alloc, bytes.as_slice())
 }
 
-/// The log of a file of the first form.
+/// The log of a log's file.
 pub fn load_log<'a, F: Files>(
     alloc: Global,
     files: &mut F,
     name: &'a str,
 ) -> Result<Log, Refusal<'a>>
-    ensures found { IfOk result (λ log. IfSome (F.held files.old) (λ held. GivesLog held name.now log)) }
-    ensures form { IfOk result IsFirstForm }
-    ensures refused { IfErr result (λ refusal. IfSome (F.held files.old) (λ held. Turned GivesNoLog held name.now refusal)) }
+    ensures found { IfOk result (GivesTold IsRecording (F.held files.old) name.now) }
+    ensures valid { IfOk result IsValid }
+    ensures refused { IfErr result (RefusesTold NoRecording (F.held files.old) name.now) }
     ensures kept { F.held files.new ≡ F.held files.old }
     ensures failed { IsErrOf result Refusal.Device → Rose (F.faults files.old) (F.faults files.new) }
     ensures steady { result ≢ Err Refusal.Device → F.faults files.new ≡ F.faults files.old }
-    ensures a_job { result ≢ Err Refusal.BadWords }
-    ensures named { IfErr result (NamesOnly name.now) }
 {
-    let mut bytes = Vec::new(alloc);
-    if let Err(fail) = files.load(alloc, name, LOG_LIMIT, &mut bytes) {
-        return Err(refusal_of(fail, name));
-    }
-    match read_first(alloc, bytes.as_slice()) {
-        Ok(Some(log)) => Ok(log),
-        Ok(None) => Err(Refusal::NotBuilt),
-        Err(_) => Err(Refusal::Memory),
-    }
+    let bytes = load(alloc, files, name, LOG_LIMIT, Refusal::LogTooLarge)?;
+    log_in(alloc, bytes.as_slice())
+}
+
+/// The program that the text of a file becomes.
+pub fn load_source<'a, F: Files>(
+    alloc: Global,
+    files: &mut F,
+    name: &'a str,
+) -> Result<Bytes, Refusal<'a>>
+    ensures found { IfOk result (GivesTold IsSource (F.held files.old) name.now) }
+    ensures refused { IfErr result (RefusesTold NoSource (F.held files.old) name.now) }
+    ensures kept { F.held files.new ≡ F.held files.old }
+    ensures failed { IsErrOf result Refusal.Device → Rose (F.faults files.old) (F.faults files.new) }
+    ensures steady { result ≢ Err Refusal.Device → F.faults files.new ≡ F.faults files.old }
+{
+    let text = load(alloc, files, name, SOURCE_LIMIT, Refusal::TextTooLarge)?;
+    program_in(alloc, text.as_slice())
 }

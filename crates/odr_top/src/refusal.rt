@@ -1,3 +1,4 @@
+use elf_image::fault::Check;
 use odr_io::fail::SaveFail;
 use odr_list::memory::Memory;
 
@@ -6,10 +7,22 @@ use odr_list::memory::Memory;
 pub enum Refusal<'a> {
     /// The words are no job.
     BadWords,
+    /// A command, or a log, that is not taken yet.
+    NotBuilt,
     /// Nothing is held under this name.
     NoFile(&'a str),
-    /// A program or a log that is not taken yet.
-    NotBuilt,
+    /// A program's file fails this check first, or is too large a file.
+    BadElf(Check),
+    /// Bytes stop to be a log at this offset.
+    BadLog(u64),
+    /// A log has too many bytes, or too many steps.
+    LogTooLarge,
+    /// The first line of a text at fault, counted from 1.
+    BadLine(u64),
+    /// The first line of a text at fault has a name that no line defines.
+    UnknownName(u64),
+    /// A text, or what is made of it, is too large.
+    TextTooLarge,
     /// The schedule differs from the log first at this place.
     Differs(u64),
     /// A store or a sink failed.
@@ -30,8 +43,8 @@ impl From<Memory> for Refusal<'_> {
 }
 
 impl From<SaveFail> for Refusal<'_> {
-    ghost use Rattle.odr_top.specs.Saved.{refusal_of};
     ghost use Rattle.std.specs.Prelude.{◌≡◌};
+    ghost use Rattle.odr_top.specs.Refused.{refusal_of};
 
     ghost from_gives = { λ error given. given ≡ refusal_of error };
 

@@ -1,63 +1,83 @@
-ghost use Rattle.std.specs.Prelude.{◌≡◌, ◌≢◌, ◌⊎◌, None, OnOk, OnErr, IfErr, IfSome, IsErrOf, is_some};
-ghost use Rattle.odr_io.specs.Outside.{Rose};
-ghost use Rattle.odr_top.specs.Words.{job_in};
-ghost use Rattle.odr_top.specs.Verdict.{Verdict, Owes};
+ghost use Rattle.std.specs.Prelude.{◌≡◌, ◌≢◌, ◌⊎◌, None, Some, OnOk, OnErr, IfErr, IfSome, IsErrOf, is_some};
 ghost use Rattle.std.specs.Io.KnownBytes.{append_known};
-ghost use Rattle.odr_top.specs.Lines.{status_of, device_line};
-ghost use Rattle.odr_top.specs.Refused.{verdict_of};
-ghost use Rattle.odr_top.specs.Answer.{KeepsInputs, OutHoldsSchedule, InferredRun, OwesSchedule, IsNamed, PartOfRun, Concluded, CutShort};
+ghost use Rattle.odr_io.specs.Outside.{Rose};
+ghost use Rattle.odr_top.specs.Verdict.{Verdict, status_of, device_line};
+ghost use Rattle.odr_top.specs.Owes.{job_in, OwesWords};
+ghost use Rattle.odr_top.specs.Refused.{verdict_of, Justified};
 ghost use Rattle.odr_top.specs.Report.{IsCut};
+ghost use Rattle.odr_top.specs.Answer.{KeepsInputs, Concluded, InferredRun, Assembled, MayFinish, HasSavedWhole, PartOfOut, CutShort, Finished};
 
-use crate::infer::infer;
-use crate::print::{report, save_schedule};
+use crate::finish::finish;
+use crate::prepare::prepare;
 use crate::refusal::Refusal;
-use crate::words::read_job;
+use crate::report::report;
 use odr_io::files::Files;
 use odr_io::sink::Sink;
 use odr_io::source::Source;
-use odr_log::one_spelling;
+use odr_log::{one_first_bad, one_spelling};
+use odr_words::fault::WordsFault;
+use odr_words::job::Job;
+use odr_words::read_words;
+use rv_model::law::no_difference_is_log;
 use std::alloc::Global;
 
-/// Does the job that the words are.
+/// Does a job.
 fn work<'a, F: Files, O: Sink>(
     alloc: Global,
-    words: &'a [String],
+    job: &'a Job,
     files: &mut F,
     out: &mut O,
 ) -> Result<(), Refusal<'a>>
-    ensures found { OnOk result (InferredRun (F.held files.old) (F.held files.new) (job_in words.now) (O.written out.old) (O.written out.new)) }
-    ensures refused { IfErr result (λ refusal. IfSome (verdict_of refusal) (λ verdict. IfSome (F.held files.old) (λ held. Owes held (job_in words.now) verdict))) }
-    ensures named { IfErr result (λ refusal. IfSome (verdict_of refusal) (IsNamed (job_in words.now))) }
+    ensures finished { OnOk result (Finished (F.held files.old) (F.held files.new) (Some job.now) (O.written out.old) (O.written out.new)) }
+    ensures refused { IfErr result (Justified (F.held files.old) job.now) }
     ensures untouched { IfErr result (λ refusal. IfSome (verdict_of refusal) (λ _. (F.held files.new ≡ F.held files.old) × (out.new ≡ out.old))) }
-    ensures no_job { job_in words.now ≡ None → (result ≡ Err Refusal.BadWords) × (files.new ≡ files.old) × (out.new ≡ out.old) }
-    ensures bad_words { IsErrOf result Refusal.BadWords → job_in words.now ≡ None }
-    ensures inputs_kept { KeepsInputs (F.held files.old) (F.held files.new) (job_in words.now) }
+    ensures inputs_kept { KeepsInputs (F.held files.old) (F.held files.new) (Some job.now) }
     ensures told { is_some (F.held files.new) ≡ is_some (F.held files.old) }
-    ensures cut { OnErr result ((O.written out.new ≡ O.written out.old) ⊎ PartOfRun (F.held files.old) (job_in words.now) (O.written out.old) (O.written out.new)) }
+    ensures cut { OnErr result ((O.written out.new ≡ O.written out.old) ⊎ PartOfOut (F.held files.old) (Some job.now) (O.written out.old) (O.written out.new)) }
     ensures failed { IsErrOf result Refusal.Device → Rose (F.faults files.old) (F.faults files.new) ⊎ Rose (O.faults out.old) (O.faults out.new) }
     ensures steady { result ≢ Err Refusal.Device → (F.faults files.new ≡ F.faults files.old) × (O.faults out.new ≡ O.faults out.old) }
-    ensures before_save { ((F.held files.new ≡ F.held files.old) × (out.new ≡ out.old)) ⊎ OwesSchedule (F.held files.old) (job_in words.now) }
-    ensures saved_first { (out.new ≡ out.old) ⊎ OutHoldsSchedule (F.held files.old) (F.held files.new) (job_in words.now) }
-    ensures whole { (Rose (F.faults files.old) (F.faults files.new) → ⊥) → (F.held files.new ≡ F.held files.old) ⊎ OutHoldsSchedule (F.held files.old) (F.held files.new) (job_in words.now) }
+    ensures before_save { ((F.held files.new ≡ F.held files.old) × (out.new ≡ out.old)) ⊎ MayFinish (F.held files.old) (Some job.now) }
+    ensures saved_first { (out.new ≡ out.old) ⊎ HasSavedWhole (F.held files.old) (F.held files.new) (Some job.now) }
+    ensures whole { (Rose (F.faults files.old) (F.faults files.new) → ⊥) → (F.held files.new ≡ F.held files.old) ⊎ HasSavedWhole (F.held files.old) (F.held files.new) (Some job.now) }
 {
-    let Some(job) = read_job(words) else {
-        return Err(Refusal::BadWords);
-    };
-    let schedule = infer(alloc, files, &job)?;
-    save_schedule(alloc, files, out, job.out, &schedule)
+    let done = prepare(alloc, files, job)?;
+    finish(alloc, files, out, &done)
+}
+
+/// The status of a job, with its lines printed.
+fn answer<F: Files, O: Sink, E: Sink>(
+    alloc: Global,
+    job: &Job,
+    files: &mut F,
+    out: &mut O,
+    err: &mut E,
+) -> u8
+    ensures causes { result ≢ 1 → result ≢ 6 → Concluded (F.held files.old) (F.held files.new) (Some job.now) result (O.written out.old) (O.written out.new) (E.written err.old) (E.written err.new) }
+    ensures nothing_failed { result ≢ 1 → result ≢ 6 → (F.faults files.new ≡ F.faults files.old) × (O.faults out.new ≡ O.faults out.old) × (E.faults err.new ≡ E.faults err.old) }
+    ensures device { result ≡ 6 → Rose (F.faults files.old) (F.faults files.new) ⊎ (Rose (O.faults out.old) (O.faults out.new) ⊎ Rose (E.faults err.old) (E.faults err.new)) }
+    ensures device_line { result ≡ 6 → (E.written err.new ≡ append_known (E.written err.old) device_line) ⊎ Rose (E.faults err.old) (E.faults err.new) }
+    ensures cut_short { IsCut result → CutShort (F.held files.old) (Some job.now) (O.written out.old) (O.written out.new) (E.written err.old) (E.written err.new) }
+    ensures inputs_kept { KeepsInputs (F.held files.old) (F.held files.new) (Some job.now) }
+    ensures told { is_some (F.held files.new) ≡ is_some (F.held files.old) }
+    ensures before_save { ((F.held files.new ≡ F.held files.old) × (out.new ≡ out.old)) ⊎ MayFinish (F.held files.old) (Some job.now) }
+    ensures saved_first { (out.new ≡ out.old) ⊎ HasSavedWhole (F.held files.old) (F.held files.new) (Some job.now) }
+    ensures whole_or_kept { (Rose (F.faults files.old) (F.faults files.new) → ⊥) → (F.held files.new ≡ F.held files.old) ⊎ HasSavedWhole (F.held files.old) (F.held files.new) (Some job.now) }
+{
+    match work(alloc, job, files, out) {
+        Ok(()) => 0,
+        Err(refusal) => report(alloc, err, refusal),
+    }
 }
 
 /// The status of a call, with its lines printed.
-fn answer<F: Files, O: Sink, E: Sink>(
+fn answer_words<F: Files, O: Sink, E: Sink>(
     alloc: Global,
     words: &[String],
     files: &mut F,
     out: &mut O,
     err: &mut E,
 ) -> u8
-    ensures inferred_run { result ≡ 0 → InferredRun (F.held files.old) (F.held files.new) (job_in words.now) (O.written out.old) (O.written out.new) }
-    ensures causes { result ≢ 1 → result ≢ 6 → Concluded (F.held files.old) (job_in words.now) result (O.written out.old) (O.written out.new) (E.written err.old) (E.written err.new) }
-    ensures bad_words { (result ≡ 2 → job_in words.now ≡ None) × (job_in words.now ≡ None → (result ≡ 2) ⊎ IsCut result) }
+    ensures causes { result ≢ 1 → result ≢ 6 → Concluded (F.held files.old) (F.held files.new) (job_in words.now) result (O.written out.old) (O.written out.new) (E.written err.old) (E.written err.new) }
     ensures no_job { job_in words.now ≡ None → (files.new ≡ files.old) × (out.new ≡ out.old) × (result ≡ 6 → Rose (E.faults err.old) (E.faults err.new)) }
     ensures nothing_failed { result ≢ 1 → result ≢ 6 → (F.faults files.new ≡ F.faults files.old) × (O.faults out.new ≡ O.faults out.old) × (E.faults err.new ≡ E.faults err.old) }
     ensures device { result ≡ 6 → Rose (F.faults files.old) (F.faults files.new) ⊎ (Rose (O.faults out.old) (O.faults out.new) ⊎ Rose (E.faults err.old) (E.faults err.new)) }
@@ -65,25 +85,27 @@ fn answer<F: Files, O: Sink, E: Sink>(
     ensures cut_short { IsCut result → CutShort (F.held files.old) (job_in words.now) (O.written out.old) (O.written out.new) (E.written err.old) (E.written err.new) }
     ensures inputs_kept { KeepsInputs (F.held files.old) (F.held files.new) (job_in words.now) }
     ensures told { is_some (F.held files.new) ≡ is_some (F.held files.old) }
-    ensures files_kept { result ≢ 0 → result ≢ 1 → result ≢ 6 → F.held files.new ≡ F.held files.old }
-    ensures before_save { ((F.held files.new ≡ F.held files.old) × (out.new ≡ out.old)) ⊎ OwesSchedule (F.held files.old) (job_in words.now) }
-    ensures saved_first { (out.new ≡ out.old) ⊎ OutHoldsSchedule (F.held files.old) (F.held files.new) (job_in words.now) }
-    ensures whole_or_kept { (Rose (F.faults files.old) (F.faults files.new) → ⊥) → (F.held files.new ≡ F.held files.old) ⊎ OutHoldsSchedule (F.held files.old) (F.held files.new) (job_in words.now) }
+    ensures before_save { ((F.held files.new ≡ F.held files.old) × (out.new ≡ out.old)) ⊎ MayFinish (F.held files.old) (job_in words.now) }
+    ensures saved_first { (out.new ≡ out.old) ⊎ HasSavedWhole (F.held files.old) (F.held files.new) (job_in words.now) }
+    ensures whole_or_kept { (Rose (F.faults files.old) (F.faults files.new) → ⊥) → (F.held files.new ≡ F.held files.old) ⊎ HasSavedWhole (F.held files.old) (F.held files.new) (job_in words.now) }
 {
-    match work(alloc, words, files, out) {
-        Ok(()) => 0,
-        Err(refusal) => report(alloc, err, refusal),
+    match read_words(alloc, words) {
+        Ok(job) => answer(alloc, &job, files, out, err),
+        Err(WordsFault::Bad) => report(alloc, err, Refusal::BadWords),
+        Err(WordsFault::Memory) => report(alloc, err, Refusal::Memory),
     }
 }
 
 /// Runs the program on the words of its command line, without the program's own name, and answers its exit
 /// status.
 ///
-/// `infer ELF LOG OUT` takes a program of the plain form whose instructions are LUI, ADDI, LW, SW, BEQ, BNE,
-/// JAL and ECALL, and a log of one thread. It answers 0, saves the schedule's text under OUT and prints the
-/// run's line where the one schedule has the log; 9 where it hasn't; 12 for a program or a log that it doesn't
-/// take; 2 for words that are no job; 14 where nothing is held under a name that is loaded; 6 where a store or
-/// a sink failed; and 1 for want of memory. A refusal's line goes to `err`.
+/// `infer ELF LOG OUT [--steps N]` takes a program and a log of one thread. It answers 0, saves the schedule's text
+/// under OUT and prints the run's line where the one schedule has the log, and 9 where it hasn't; a log of more
+/// threads is answered 12. `asm TEXT ELF` assembles a text, saves the program under ELF and prints its size.
+///
+/// Refusals are 2 for words that are no job, 14 where nothing is held under a name that is loaded, 3 for a file that
+/// is no image, 4 for one that is no log, 5 for a text at fault, 12 for a command that is not built, 6 where a store
+/// or a sink failed, and 1 for want of memory. A refusal's line goes to `err`.
 pub fn odr_run<F: Files, S: Source, O: Sink, E: Sink>(
     alloc: Global,
     words: &[String],
@@ -92,14 +114,17 @@ pub fn odr_run<F: Files, S: Source, O: Sink, E: Sink>(
     out: &mut O,
     err: &mut E,
 ) -> u8
-    // With status 0 the file holds a schedule whose run has exactly the log, and its line was printed.
+    // With status 0 of an inference the file holds a schedule whose run has exactly the log, and its line was printed.
     ensures inferred_run { result ≡ 0 → InferredRun (F.held files.old) (F.held files.new) (job_in words.now) (O.written out.old) (O.written out.new) }
 
-    // Every status but 1 and 6 is owed, exactly its lines were printed, and nothing failed.
-    ensures causes { result ≢ 1 → result ≢ 6 → Concluded (F.held files.old) (job_in words.now) result (O.written out.old) (O.written out.new) (E.written err.old) (E.written err.new) }
+    // With status 0 of an assembly the file holds the program of the text, and its line was printed.
+    ensures assembled { result ≡ 0 → Assembled (F.held files.old) (F.held files.new) (job_in words.now) (O.written out.old) (O.written out.new) }
+
+    // Every status but 1 and 6 is owed, its file was left and no other, exactly its lines were printed, and nothing failed.
+    ensures causes { result ≢ 1 → result ≢ 6 → Concluded (F.held files.old) (F.held files.new) (job_in words.now) result (O.written out.old) (O.written out.new) (E.written err.old) (E.written err.new) }
 
     // Where the store tells what it holds, the owed status comes, unless 1 or 6 does.
-    ensures complete { IfSome (F.held files.old) (λ held. (verdict : Verdict) → Owes held (job_in words.now) verdict → (result ≡ status_of verdict) ⊎ IsCut result) }
+    ensures complete { IfSome (F.held files.old) (λ held. (verdict : Verdict) → OwesWords held (job_in words.now) verdict → (result ≡ status_of verdict) ⊎ IsCut result) }
     ensures bad_words { (result ≡ 2 → job_in words.now ≡ None) × (job_in words.now ≡ None → (result ≡ 2) ⊎ IsCut result) }
     ensures no_job { job_in words.now ≡ None → (files.new ≡ files.old) × (out.new ≡ out.old) × (result ≡ 6 → Rose (E.faults err.old) (E.faults err.new)) }
     ensures nothing_failed { result ≢ 1 → result ≢ 6 → (F.faults files.new ≡ F.faults files.old) × (O.faults out.new ≡ O.faults out.old) × (E.faults err.new ≡ E.faults err.old) }
@@ -109,17 +134,19 @@ pub fn odr_run<F: Files, S: Source, O: Sink, E: Sink>(
     ensures device_line { result ≡ 6 → (E.written err.new ≡ append_known (E.written err.old) device_line) ⊎ Rose (E.faults err.old) (E.faults err.new) }
     ensures cut_short { IsCut result → CutShort (F.held files.old) (job_in words.now) (O.written out.old) (O.written out.new) (E.written err.old) (E.written err.new) }
 
-    // Only the schedule's file may change, by a whole schedule unless the store failed, and before out is written.
+    // Only the job's file may change, by a whole text unless the store failed, and before out is written.
     ensures inputs_kept { KeepsInputs (F.held files.old) (F.held files.new) (job_in words.now) }
     ensures told { is_some (F.held files.new) ≡ is_some (F.held files.old) }
     ensures files_kept { result ≢ 0 → result ≢ 1 → result ≢ 6 → F.held files.new ≡ F.held files.old }
-    ensures before_save { ((F.held files.new ≡ F.held files.old) × (out.new ≡ out.old)) ⊎ OwesSchedule (F.held files.old) (job_in words.now) }
-    ensures saved_first { (out.new ≡ out.old) ⊎ OutHoldsSchedule (F.held files.old) (F.held files.new) (job_in words.now) }
-    ensures whole_or_kept { (Rose (F.faults files.old) (F.faults files.new) → ⊥) → (F.held files.new ≡ F.held files.old) ⊎ OutHoldsSchedule (F.held files.old) (F.held files.new) (job_in words.now) }
+    ensures before_save { ((F.held files.new ≡ F.held files.old) × (out.new ≡ out.old)) ⊎ MayFinish (F.held files.old) (job_in words.now) }
+    ensures saved_first { (out.new ≡ out.old) ⊎ HasSavedWhole (F.held files.old) (F.held files.new) (job_in words.now) }
+    ensures whole_or_kept { (Rose (F.faults files.old) (F.faults files.new) → ⊥) → (F.held files.new ≡ F.held files.old) ⊎ HasSavedWhole (F.held files.old) (F.held files.new) (job_in words.now) }
 
     ensures commands_kept { commands.new ≡ commands.old }
 {
     let _ = commands;
     one_spelling();
-    answer(alloc, words, files, out, err)
+    one_first_bad();
+    no_difference_is_log();
+    answer_words(alloc, words, files, out, err)
 }

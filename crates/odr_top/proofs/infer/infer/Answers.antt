@@ -1,15 +1,25 @@
-use Rattle.std.proofs.Common.{Some}
-use Rattle.std.specs.Option.{IfSome}
-use Rattle.odr_io.specs.Outside.{Held}
-use Rattle.odr_top.specs.Named.{files_of}
-use Rattle.odr_top.specs.Verdict.{Verdict, OwesRun, Owes}
-use Rattle.odr_top.proofs.Stages.{told_run, refused_under}
+use Rattle.std.proofs.Common.{◌≡◌, length, refl, rules, sym}
+use Rattle.sched_text.specs.Text.{schedule_text}
+use Rattle.odr_top.specs.Verdict.{Inferred, run_line}
+use Rattle.odr_top.proofs.Ends.{owed_inference}
 use Rattle.odr_top.proofs.infer.infer.Goals as goal
 
-pub returns-clause-refused : goal.returns-clause-refused
-returns-clause-refused g c =
-    refused_under (OwesRun c.in_ok-image.image c.in_ok-log.log)
-    (λ (v : Verdict). IfSome (g.F.Files.held c.args.files.now) (λ (held : Held). Owes held (Some (files_of c.args.job.now)) v)) c.explain.result
-    (told_run (g.F.Files.held c.args.files.now) (g.F.Files.held c.load_image.new.files) (files_of c.args.job.now) c.in_ok-image.image c.in_ok-log.log
-    c.in_ok-image.ensures.found c.in_ok-image.ensures.kept c.in_ok-log.ensures.found)
-    c.explain.ensures.refused
+pub returns-clause-done : goal.returns-clause-done
+returns-clause-done g c =
+    let schedule = c.in_ok-schedule.schedule in
+    let line : c.in_ok-printed.printed ≡ run_line (length c.in_ok-schedule.schedule) = search rules in
+    let text : c.of-bytes.result ≡ schedule_text c.in_ok-schedule.schedule = search rules in
+    record {
+      verdict = Inferred schedule;
+      finishes = record {
+        status = refl;
+        owed = (
+          tt,
+          owed_inference (g.F.Files.held c.args.files.now) (g.F.Files.held c.load_image.new.files) c.args.elf.now c.args.log.now c.args.out.now c.args.budget
+              c.in_ok-image.image c.in_ok-log.log (Inferred schedule) c.in_ok-image.ensures.found c.in_ok-image.ensures.kept c.in_ok-log.ensures.found
+              (sym c.in_ok-schedule.ensures.found),
+        );
+      };
+      file = (refl, text);
+      printed = line;
+    }

@@ -1,0 +1,126 @@
+-- What a load gives or refuses decides what a job owes.
+use Rattle.std.specs.Prelude.{◌≡◌, ◌<◌, ℕ, List, length, Option, Some, None, IfSome, IsSomeAnd, IfErr, Result, Ok, Err, refl}
+use Rattle.std.specs.Borrow.{Bor}
+use Rattle.std.proofs.Common.{sym, subst, inl, inr}
+use Rattle.odr_io.specs.Outside.{Held, held_at, HoldsNothing, HoldsMore}
+use Rattle.odr_words.specs.declared.job.Job.{Job}
+use Rattle.odr_top.specs.declared.refusal.Refusal.{Refusal}
+use Rattle.odr_top.specs.declared.refusal.Refusal.TheVariants as refusal
+use Rattle.odr_top.specs.Verdict.{Verdict, BadWords, NotBuilt, NoFile, BadElf, BadLog, LogTooLarge, BadLine, UnknownName, TextTooLarge, Differs, Inferred, Assembled}
+use Rattle.odr_top.specs.Inputs.{Gives, RefusesBytes, Refuses}
+use Rattle.odr_top.specs.Owes.{Owes, loads, IsOneOf, Answers}
+use Rattle.odr_top.specs.Refused.{verdict_of, IsOwed, Justified}
+use Rattle.odr_top.specs.Report.{IsOutside}
+use Rattle.odr_top.specs.Loaded.{Found, Turned, OfInput, GivesTold, IsRefusal, RefusesTold, IsNot, RefusesContent}
+
+-- ---- one file
+
+given_from : {X : Type 0} (Is : List ℕ → X → Type 0) (held : Held) (name bytes : List ℕ) (x : X) → held_at held name ≡ Some bytes → Is bytes x → Gives Is held name x
+given_from {X} Is held name bytes x found is = record { file = bytes; found = found; is = is }
+
+pub gives_found : {X : Type 0} (Is : List ℕ → X → Type 0) (told : Option Held) (name : List ℕ) (limit : ℕ) (bytes : List ℕ) (x : X)
+    → Found told name limit bytes → Is bytes x → GivesTold Is told name x
+gives_found {X} Is None name limit bytes x found is = tt
+gives_found {X} Is (Some held) name limit bytes x found is = given_from Is held name bytes x found.holds is
+
+refused_held : (Not : List ℕ → Verdict → Type 0) (told : Option Held) (name bytes : List ℕ) (v : Verdict)
+    → IfSome told (λ held. held_at held name ≡ Some bytes) → Not bytes v → IfSome told (λ held. Refuses Not held name v)
+refused_held Not None name bytes v holds is = tt
+refused_held Not (Some held) name bytes v holds is = subst (λ (o : Option (List ℕ)). RefusesBytes Not name o v) (sym holds) is
+
+refused_one : (Not : List ℕ → Verdict → Type 0) (told : Option Held) (name : List ℕ) (limit : ℕ) (bytes : List ℕ) (found : Option Verdict)
+    → Found told name limit bytes → IfSome found (λ verdict. (n : List ℕ) → IsNot Not bytes n verdict) → IfSome found (IsRefusal Not told name)
+refused_one Not told name limit bytes None found is = tt
+refused_one Not told name limit bytes (Some v) found is =
+    record { of_input = (is name).of_input; refuses = refused_held Not told name bytes v found.holds (is name).refuses }
+
+-- bytes that were found and are refused
+pub refuses_found : (Not : List ℕ → Verdict → Type 0) (told : Option Held) (name : List ℕ) (limit : ℕ) (bytes : List ℕ) (given : Refusal)
+    → Found told name limit bytes → RefusesContent Not bytes given → RefusesTold Not told name given
+refuses_found Not told name limit bytes given found is = refused_one Not told name limit bytes (verdict_of given) found is
+
+nothing_held : (Not : List ℕ → Verdict → Type 0) (told : Option Held) (name : List ℕ) → HoldsNothing told name → IfSome told (λ held. Refuses Not held name (NoFile name))
+nothing_held Not None name holds = tt
+nothing_held Not (Some held) name holds = subst (λ (o : Option (List ℕ)). RefusesBytes Not name o (NoFile name)) (sym holds) refl
+
+too_many : (Not : List ℕ → Verdict → Type 0) (name : List ℕ) (limit : ℕ) (v : Verdict) (o : Option (List ℕ))
+    → ((file : List ℕ) → limit < length file → Not file v) → IsSomeAnd o (λ bytes. limit < length bytes) → RefusesBytes Not name o v
+too_many Not name limit v None not holds = absurd holds
+too_many Not name limit v (Some file) not holds = not file holds
+
+more_held : (Not : List ℕ → Verdict → Type 0) (told : Option Held) (name : List ℕ) (limit : ℕ) (v : Verdict)
+    → ((file : List ℕ) → limit < length file → Not file v) → HoldsMore told name limit → IfSome told (λ held. Refuses Not held name v)
+more_held Not None name limit v not holds = tt
+more_held Not (Some held) name limit v not holds = too_many Not name limit v (held_at held name) not holds
+
+outside_refuses : (Not : List ℕ → Verdict → Type 0) (told : Option Held) (name : List ℕ) (given : Refusal) → IsOutside given → RefusesTold Not told name given
+outside_refuses Not told name refusal.Device o = tt
+outside_refuses Not told name refusal.Memory o = tt
+outside_refuses Not told name refusal.BadWords o = absurd o
+outside_refuses Not told name refusal.NotBuilt o = absurd o
+outside_refuses Not told name (refusal.NoFile n) o = absurd o
+outside_refuses Not told name (refusal.BadElf f) o = absurd o
+outside_refuses Not told name (refusal.BadLog f) o = absurd o
+outside_refuses Not told name refusal.LogTooLarge o = absurd o
+outside_refuses Not told name (refusal.BadLine l) o = absurd o
+outside_refuses Not told name (refusal.UnknownName l) o = absurd o
+outside_refuses Not told name refusal.TextTooLarge o = absurd o
+outside_refuses Not told name (refusal.Differs p) o = absurd o
+
+-- a load that was refused; `too_long` has the verdict `v`, and files above the limit are refused so
+pub refuses_turned : (Not : List ℕ → Verdict → Type 0) (told : Option Held) (name : Bor (List ℕ)) (limit : ℕ) (too_long given : Refusal) (v : Verdict)
+    → verdict_of too_long ≡ Some v → OfInput name.now v → ((file : List ℕ) → limit < length file → Not file v)
+    → Turned told name limit too_long given → RefusesTold Not told name.now given
+refuses_turned Not told name limit too_long given v is of_input not (inl absent) =
+    subst (λ (g : Refusal). RefusesTold Not told name.now g) (sym absent.0)
+    (let one : IsRefusal Not told name.now (NoFile name.now) = record { of_input = refl; refuses = nothing_held Not told name.now absent.1 } in one)
+refuses_turned Not told name limit too_long given v is of_input not (inr (inl more)) =
+    subst (λ (g : Refusal). RefusesTold Not told name.now g) (sym more.0)
+    (subst (λ (o : Option Verdict). IfSome o (IsRefusal Not told name.now)) (sym is)
+    (let one : IsRefusal Not told name.now v = record { of_input = of_input; refuses = more_held Not told name.now limit v not more.1 } in one))
+refuses_turned Not told name limit too_long given v is of_input not (inr (inr outside)) = outside_refuses Not told name.now given outside
+
+-- ---- jobs
+
+answers_input : (j : Job) (name : List ℕ) (v : Verdict) → IsOneOf name (loads j) → OfInput name v → Answers j v
+answers_input j name BadWords one of = absurd of
+answers_input j name NotBuilt one of = absurd of
+answers_input j name (NoFile absent) one of = subst (λ (n : List ℕ). IsOneOf n (loads j)) (sym of) one
+answers_input j name (BadElf failed) one of = tt
+answers_input j name (BadLog offset) one of = tt
+answers_input j name LogTooLarge one of = tt
+answers_input j name (BadLine line) one of = tt
+answers_input j name (UnknownName line) one of = tt
+answers_input j name TextTooLarge one of = tt
+answers_input j name (Differs place) one of = absurd of
+answers_input j name (Inferred schedule) one of = absurd of
+answers_input j name (Assembled file) one of = absurd of
+
+both : (told : Option Held) (P Q : Held → Type 0) → IfSome told (λ held. P held → Q held) → IfSome told P → IfSome told Q
+both None P Q f p = tt
+both (Some held) P Q f p = f p
+
+one_justified : (Not : List ℕ → Verdict → Type 0) (told : Option Held) (name : List ℕ) (j : Job) (found : Option Verdict) → IsOneOf name (loads j)
+    → IfSome told (λ held. (v : Verdict) → Refuses Not held name v → Owes held j v)
+    → IfSome found (IsRefusal Not told name) → IfSome found (IsOwed told j)
+one_justified Not told name j None one owes refused = tt
+one_justified Not told name j (Some v) one owes refused = (
+  answers_input j name v one refused.of_input,
+  both told (λ held. Refuses Not held name v) (λ held. Owes held j v) (at_one Not told name j v owes) refused.refuses,
+) where
+  at_one : (Not : List ℕ → Verdict → Type 0) (told : Option Held) (name : List ℕ) (j : Job) (v : Verdict)
+      → IfSome told (λ held. (u : Verdict) → Refuses Not held name u → Owes held j u) → IfSome told (λ held. Refuses Not held name v → Owes held j v)
+  at_one Not None name j v owes = tt
+  at_one Not (Some held) name j v owes = owes v
+
+-- a file of the job that was refused
+pub justified : (Not : List ℕ → Verdict → Type 0) (told : Option Held) (name : List ℕ) (j : Job) (given : Refusal) → IsOneOf name (loads j)
+    → IfSome told (λ held. (v : Verdict) → Refuses Not held name v → Owes held j v)
+    → RefusesTold Not told name given → Justified told j given
+justified Not told name j given one owes refused = one_justified Not told name j (verdict_of given) one owes refused
+
+-- what bytes are refused for, through the load that found them
+pub loaded_refused : {T : Type 0} (Not : List ℕ → Verdict → Type 0) (told : Option Held) (name : List ℕ) (limit : ℕ) (bytes : List ℕ) (r : Result T Refusal)
+    → Found told name limit bytes → IfErr r (RefusesContent Not bytes) → IfErr r (RefusesTold Not told name)
+loaded_refused {T} Not told name limit bytes (Ok x) found refused = tt
+loaded_refused {T} Not told name limit bytes (Err given) found refused = refuses_found Not told name limit bytes given found refused

@@ -1,0 +1,74 @@
+-- What the files that a command loads give, and why they are refused.
+use Rattle.std.specs.Prelude.{◌≡◌, ◌⊎◌, ℕ, ◌<◌, ◌≤◌, List, length, Option, Some, None}
+use Rattle.odr_io.specs.Outside.{Held, held_at}
+use Rattle.elf_image.specs.declared.fault.Check.{Check}
+use Rattle.elf_image.specs.declared.fault.Check.TheVariants as check
+use Rattle.elf_image.specs.Layout.{Layout}
+use Rattle.elf_image.specs.Checks.{IsImage, first_check}
+use Rattle.odr_log.specs.declared.log.Log.{Log}
+use Rattle.odr_log.specs.Grammar.{IsLog}
+use Rattle.odr_log.specs.Faults.{FitsFile, IsTooLarge, FirstBad}
+use Rattle.rv32_asm.specs.declared.fault.AsmFault.{AsmFault}
+use Rattle.rv32_asm.specs.declared.fault.AsmFault.TheVariants as asm
+use Rattle.rv32_asm.specs.File.{AsmFile, IsRefused}
+use Rattle.odr_top.specs.Verdict.{Verdict, NoFile, BadElf, BadLog, LogTooLarge, BadLine, UnknownName, TextTooLarge}
+
+-- ---- a program
+
+pub record IsProgram (file : List ℕ) (image : Layout) : Type 0 where
+  pub within : length file ≤ 16777216
+  pub is_image : IsImage file image
+
+-- a file above its limit is refused as one that is too large
+abbrev pub NoProgram : List ℕ → Verdict → Type 0
+NoProgram file verdict =
+    ((16777216 < length file) × (verdict ≡ BadElf check.TooLarge))
+    ⊎ ((failed : Check) × (length file ≤ 16777216) × (first_check file ≡ Some failed) × (verdict ≡ BadElf failed))
+
+-- ---- a log
+
+pub record IsRecording (file : List ℕ) (log : Log) : Type 0 where
+  pub within : FitsFile file
+  pub is_log : IsLog file log
+
+abbrev pub NoRecording : List ℕ → Verdict → Type 0
+NoRecording file verdict =
+    (IsTooLarge file × (verdict ≡ LogTooLarge)) ⊎ ((offset : ℕ) × FitsFile file × FirstBad file offset × (verdict ≡ BadLog offset))
+
+-- ---- an assembly text
+
+pub record IsSource (text file : List ℕ) : Type 0 where
+  pub within : length text ≤ 1048576
+  pub is_file : AsmFile text file
+
+-- the verdict of a fault in a text, none for want of memory
+abbrev pub fault_verdict : AsmFault → Option Verdict
+fault_verdict (asm.BadLine line) = Some (BadLine line)
+fault_verdict (asm.UnknownName line) = Some (UnknownName line)
+fault_verdict asm.TooLarge = Some TextTooLarge
+fault_verdict asm.Memory = None
+
+abbrev pub NoSource : List ℕ → Verdict → Type 0
+NoSource text verdict =
+    ((1048576 < length text) × (verdict ≡ TextTooLarge))
+    ⊎ ((fault : AsmFault) × (length text ≤ 1048576) × IsRefused text fault × (fault_verdict fault ≡ Some verdict))
+
+-- ---- files by their names
+
+-- the store holds a file that gives this
+pub record Gives {X : Type 0} (Is : List ℕ → X → Type 0) (held : Held) (name : List ℕ) (x : X) : Type 0 where
+  pub file : List ℕ
+  pub found : held_at held name ≡ Some file
+  pub is : Is file x
+
+-- nothing is held under the name, or a file that gives nothing
+abbrev pub RefusesBytes : (List ℕ → Verdict → Type 0) → List ℕ → Option (List ℕ) → Verdict → Type 0
+RefusesBytes Not name None verdict = verdict ≡ NoFile name
+RefusesBytes Not name (Some file) verdict = Not file verdict
+
+abbrev pub Refuses : (List ℕ → Verdict → Type 0) → Held → List ℕ → Verdict → Type 0
+Refuses Not held name verdict = RefusesBytes Not name (held_at held name) verdict
+
+-- a file that is refused with its verdict, or gives what the rest of the work goes by
+abbrev pub FromFile : {X : Type 0} → (List ℕ → X → Type 0) → (List ℕ → Verdict → Type 0) → Held → List ℕ → (X → Verdict → Type 0) → Verdict → Type 0
+FromFile {X} Is Not held name Next verdict = Refuses Not held name verdict ⊎ ((x : X) × Gives Is held name x × Next x verdict)

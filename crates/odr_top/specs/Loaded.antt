@@ -1,0 +1,56 @@
+-- What a load gives, or how it is refused.
+use Rattle.std.specs.Prelude.{◌≡◌, ◌⊎◌, ℕ, ◌≤◌, List, length, Option, IfSome}
+use Rattle.std.specs.Borrow.{Bor}
+use Rattle.odr_io.specs.Outside.{Held, Holds, HoldsNothing, HoldsMore}
+use Rattle.odr_top.specs.declared.refusal.Refusal.{Refusal}
+use Rattle.odr_top.specs.declared.refusal.Refusal.TheVariants as refusal
+use Rattle.odr_top.specs.Verdict.{Verdict, BadWords, NotBuilt, NoFile, BadElf, BadLog, LogTooLarge, BadLine, UnknownName, TextTooLarge, Differs, Inferred, Assembled}
+use Rattle.odr_top.specs.Inputs.{Gives, Refuses}
+use Rattle.odr_top.specs.Refused.{verdict_of}
+use Rattle.odr_top.specs.Report.{IsOutside}
+
+-- no more bytes than the limit, which are held under the name where the store tells
+pub record Found (told : Option Held) (name : List ℕ) (limit : ℕ) (bytes : List ℕ) : Type 0 where
+  pub within : length bytes ≤ limit
+  pub holds : Holds told name bytes
+
+-- nothing is held under the name, or more than the limit, or something outside failed
+abbrev pub Turned : Option Held → Bor (List ℕ) → ℕ → Refusal → Refusal → Type 0
+Turned told name limit too_long given =
+    ((given ≡ refusal.NoFile name) × HoldsNothing told name.now)
+    ⊎ (((given ≡ too_long) × HoldsMore told name.now limit) ⊎ IsOutside given)
+
+-- a verdict on one file that is loaded
+abbrev pub OfInput : List ℕ → Verdict → Type 0
+OfInput name BadWords = ⊥
+OfInput name NotBuilt = ⊥
+OfInput name (NoFile absent) = absent ≡ name
+OfInput name (BadElf failed) = Unit {0}
+OfInput name (BadLog offset) = Unit {0}
+OfInput name LogTooLarge = Unit {0}
+OfInput name (BadLine line) = Unit {0}
+OfInput name (UnknownName line) = Unit {0}
+OfInput name TextTooLarge = Unit {0}
+OfInput name (Differs place) = ⊥
+OfInput name (Inferred schedule) = ⊥
+OfInput name (Assembled file) = ⊥
+
+-- where the store tells what it holds, the file gives this
+abbrev pub GivesTold : {X : Type 0} → (List ℕ → X → Type 0) → Option Held → List ℕ → X → Type 0
+GivesTold {X} Is told name x = IfSome told (λ held. Gives Is held name x)
+
+-- where the store tells what it holds, the file is refused with this verdict
+pub record IsRefusal (Not : List ℕ → Verdict → Type 0) (told : Option Held) (name : List ℕ) (verdict : Verdict) : Type 0 where
+  pub of_input : OfInput name verdict
+  pub refuses : IfSome told (λ held. Refuses Not held name verdict)
+
+abbrev pub RefusesTold : (List ℕ → Verdict → Type 0) → Option Held → List ℕ → Refusal → Type 0
+RefusesTold Not told name given = IfSome (verdict_of given) (IsRefusal Not told name)
+
+-- the bytes of a file are refused with a verdict on it
+pub record IsNot (Not : List ℕ → Verdict → Type 0) (bytes name : List ℕ) (verdict : Verdict) : Type 0 where
+  pub of_input : OfInput name verdict
+  pub refuses : Not bytes verdict
+
+abbrev pub RefusesContent : (List ℕ → Verdict → Type 0) → List ℕ → Refusal → Type 0
+RefusesContent Not bytes given = IfSome (verdict_of given) (λ verdict. (name : List ℕ) → IsNot Not bytes name verdict)

@@ -1,0 +1,47 @@
+ghost use Rattle.std.specs.Prelude.{◌≡◌, ◌≢◌, IfOk, IfErr, IsErrOf};
+ghost use Rattle.odr_io.specs.Outside.{Rose};
+ghost use Rattle.odr_top.specs.Refused.{Justified};
+ghost use Rattle.odr_top.specs.Done.{Prepared};
+
+use crate::asm::asm;
+use crate::done::Done;
+use crate::infer::infer;
+use crate::refusal::Refusal;
+use odr_io::files::Files;
+use odr_words::job::Job;
+use std::alloc::Global;
+
+/// Does a job but for what it leaves outside.
+pub fn prepare<'a, F: Files>(
+    alloc: Global,
+    files: &mut F,
+    job: &'a Job,
+) -> Result<Done<'a>, Refusal<'a>>
+    ensures done { IfOk result (Prepared (F.held files.old) job.now) }
+    ensures refused { IfErr result (Justified (F.held files.old) job.now) }
+    ensures kept { F.held files.new ≡ F.held files.old }
+    ensures failed { IsErrOf result Refusal.Device → Rose (F.faults files.old) (F.faults files.new) }
+    ensures steady { result ≢ Err Refusal.Device → F.faults files.new ≡ F.faults files.old }
+{
+    match job {
+        Job::Infer {
+            elf,
+            log,
+            out,
+            steps,
+        } => infer(
+            alloc,
+            files,
+            elf.as_str(),
+            log.as_str(),
+            out.as_str(),
+            *steps,
+        ),
+        Job::Asm { text, elf } => asm(alloc, files, text.as_str(), elf.as_str()),
+        Job::Record { .. }
+        | Job::Check { .. }
+        | Job::Replay { .. }
+        | Job::Debug { .. }
+        | Job::Demo { .. } => Err(Refusal::NotBuilt),
+    }
+}
