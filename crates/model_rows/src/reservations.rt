@@ -1,6 +1,6 @@
 //! What ends the reservation of another thread: a write to a byte of its word.
 
-use crate::programs::DATA;
+use crate::files::DATA;
 use crate::stepping::{image_of, machine_of, step_of, thread_of};
 use std::test::Fail;
 

@@ -1,7 +1,7 @@
 //! Each instruction of the instruction table, at its edges. The words are those of an assembler; what they do
 //! was worked out from the RISC-V unprivileged ISA, "RV32I" and the extensions M and A.
 
-use crate::programs::{DATA, TEXT};
+use crate::files::{DATA, TEXT};
 use crate::stepping::{image_of, is_same, machine_of, step_of, thread_of};
 use Change::{Branches, Conditional, Faults, Jumps, Links, Reserves, Sets, Stores, Swaps};
 use odr_log::log::Cause;

@@ -1,12 +1,12 @@
 //! Each guest call and its misuses, by the call table.
 
-use crate::programs::{DATA, TEXT};
+use crate::files::{DATA, TEXT};
 use crate::stepping::{image_of, is_same, machine_of, step_of, thread_of};
 use Effect::{Ends, Exits, Nothing, Owner, Spawns, Takes};
 use odr_log::log::Call;
 use odr_log::read_log;
 use rv_model::plain;
-use rv_model::state::{Halt, Local, Note, State, Stepped, Thread};
+use rv_model::state::{Core, Halt, Local, Note, State, Thread};
 use std::alloc::Global;
 use std::process::Abort;
 use std::test::Fail;
@@ -156,9 +156,8 @@ fn is_call(alloc: Global, call: &Call, record: &[u8]) -> Result<bool, Fail> {
     }
 }
 
-/// Compares what came of a call with its effect.
-fn compare(rt: &impl Abort, row: usize, a0: u32, effect: Effect, stepped: &Stepped) {
-    let core = &stepped.state.core;
+/// Compares the shared state after a call with the call's effect.
+fn compare_shared(rt: &impl Abort, row: usize, effect: Effect, core: &Core) {
     let halt = match effect {
         Exits(code) => Some(Halt::Exited { tid: 1, code }),
         _ => None,
@@ -186,13 +185,21 @@ fn compare(rt: &impl Abort, row: usize, a0: u32, effect: Effect, stepped: &Stepp
         ),
         _ => assert_eq!(rt; ended, [None, value, Some(77)].as_slice(), "row {row}"),
     }
+}
+
+/// Compares the rest of the tape, and the bytes from a0 on that were written.
+fn compare_tape(rt: &impl Abort, row: usize, a0: u32, effect: Effect, state: &State) {
     let taken = match effect {
         Takes(count) => count.min(6),
         _ => 0,
     };
-    assert_eq!(rt; core.calls.tape.as_slice(), &TAPE[taken..], "row {row}");
+    assert_eq!(rt;
+        state.core.calls.tape.as_slice(),
+        &TAPE[taken..],
+        "row {row}"
+    );
     for offset in 0..16 {
-        let newest = stepped.state.writes.newest(a0.wrapping_add(offset as u32));
+        let newest = state.writes.newest(a0.wrapping_add(offset as u32));
         assert_eq!(rt; newest, TAPE[..taken].get(offset).copied(), "row {row}");
     }
 }
@@ -238,7 +245,8 @@ fn calls_are_answered_by_the_table(rt: HostRuntime) -> Result<(), Fail> {
             *effect,
             stepped.state.core.threads.as_slice(),
         );
-        compare(&rt, row, *a0, *effect, &stepped);
+        compare_shared(&rt, row, *effect, &stepped.state.core);
+        compare_tape(&rt, row, *a0, *effect, &stepped.state);
     }
     Ok(())
 }

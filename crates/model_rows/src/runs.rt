@@ -1,25 +1,27 @@
 //! Runs of the plain machine over whole programs, and the logs that they have. Each program shows one thing
 //! that a schedule may decide.
 
-use crate::programs::{
-    BREAKPOINT, BREAKPOINT_LOG, BYTES_MERGE, BYTES_MERGE_LOG, COMPUTED_ADDRESS,
-    COMPUTED_ADDRESS_LOG, DEADLOCK, DEADLOCK_LOG, DIVIDE, DIVIDE_LOG, EIGHT_THREADS,
-    EIGHT_THREADS_LOG, HELLO, HELLO_LOG, HELLO_PROGRAM, KEPT_LOCK, KEPT_LOCK_LOG, LOCKED,
-    LOCKED_LOG, LOST_UPDATE, LOST_UPDATE_LOG, MISALIGNED_STORE, MISALIGNED_STORE_LOG, NO_CODE,
-    NO_CODE_LOG, Program, RACING_FAULT, RACING_FAULT_CUT_LOG, RACING_FAULT_LOG, SEEDED_CUT,
-    SEEDED_CUT_LOG, STORE_BUFFERING, STORE_BUFFERING_LOG, STORE_CONDITIONAL_PAIRS,
-    STORE_CONDITIONAL_PAIRS_LOG, TAPE, TAPE_LOG, UNKNOWN_CALL, UNKNOWN_CALL_LOG, changed,
-    program_file,
-};
-use crate::stepping::step_of;
+use crate::files::{TEXT, changed, program_file};
+use crate::stepping::{is_same, step_of};
 use Outcome::{Differs, Has};
 use elf_image::image::Image;
+use guest_programs::logs::{
+    BREAKPOINT_LOG, BYTES_MERGE_LOG, COMPUTED_ADDRESS_LOG, DEADLOCK_LOG, DIVIDE_LOG,
+    EIGHT_THREADS_LOG, HELLO_FILE, HELLO_LOG, KEPT_LOCK_LOG, LOCKED_LOG, LOST_UPDATE_LOG,
+    MISALIGNED_STORE_LOG, NO_CODE_LOG, RACING_FAULT_CUT_LOG, RACING_FAULT_LOG, SEEDED_CUT_LOG,
+    STORE_BUFFERING_LOG, STORE_CONDITIONAL_PAIRS_LOG, TAPE_LOG, UNKNOWN_CALL_LOG,
+};
+use guest_programs::programs::{
+    BREAKPOINT, BYTES_MERGE, COMPUTED_ADDRESS, DEADLOCK, DIVIDE, EIGHT_THREADS, HELLO, KEPT_LOCK,
+    LOCKED, LOST_UPDATE, MISALIGNED_STORE, NO_CODE, Program, RACING_FAULT, SEEDED_CUT,
+    STORE_BUFFERING, STORE_CONDITIONAL_PAIRS, TAPE, UNKNOWN_CALL,
+};
 use odr_list::bytes::Bytes;
 use odr_list::list::List;
 use odr_log::{read_log, tape};
 use rv_model::plain;
 use rv_model::run::{first_difference, log_of};
-use rv_model::state::{Event, State};
+use rv_model::state::{Event, Local, State, Thread};
 use std::alloc::{AllocError, Global};
 use std::process::Abort;
 use std::test::Fail;
@@ -45,7 +47,7 @@ struct Guest {
 
 static GUESTS: [Guest; 19] = [
     Guest {
-        program: HELLO_PROGRAM,
+        program: HELLO,
         log: &HELLO_LOG,
         rows: &[
             (&[], &[(0, 8)], Has(&[])),
@@ -352,9 +354,35 @@ fn meets_all(rt: &impl Abort, alloc: Global, guest: &Guest) -> Result<(), Fail> 
 }
 
 #[test]
+fn one_thread_opens_a_run(rt: HostRuntime) -> Result<(), Fail> {
+    let alloc = rt.alloc();
+    let image = Image::read(alloc, &HELLO_FILE)?;
+    let tape = Bytes::from_slice(alloc, b"abc")?;
+    let state = plain::opening(alloc, &image, tape)?;
+    let mut registers = [0; 32];
+    registers[2] = 0x7000_4000;
+    let first = Thread {
+        local: Local {
+            pc: TEXT,
+            registers,
+        },
+        reservation: None,
+        retired: 0,
+    };
+    let threads = state.core.threads.as_slice();
+    assert_eq!(rt; threads.len(), 1);
+    assert!(rt; is_same(&threads[0], &first));
+    assert_eq!(rt; state.core.calls.ended.as_slice(), [None].as_slice());
+    assert_eq!(rt; state.core.calls.owners, [None; 32]);
+    assert_eq!(rt; state.core.calls.tape.as_slice(), b"abc".as_slice());
+    assert_eq!(rt; state.core.halt, None);
+    Ok(())
+}
+
+#[test]
 fn schedules_have_their_logs(rt: HostRuntime) -> Result<(), Fail> {
-    let file = program_file(rt.alloc(), HELLO_PROGRAM)?;
-    assert_eq!(rt; file.as_slice(), HELLO.as_slice());
+    let file = program_file(rt.alloc(), HELLO)?;
+    assert_eq!(rt; file.as_slice(), HELLO_FILE.as_slice());
     for guest in &GUESTS {
         meets_all(&rt, rt.alloc(), guest)?;
     }

@@ -1,6 +1,6 @@
 //! Machines that the tests make, and their steps.
 
-use crate::programs::{DATA, TEXT, file_of};
+use crate::files::{DATA, TEXT, file_of};
 use elf_image::image::Image;
 use odr_list::bytes::Bytes;
 use odr_list::list::List;
