@@ -7,3 +7,4 @@ pub mod Counts
 pub mod LoggedLemmas
 pub mod Bounds
 pub mod SoFar
+pub mod Genuine
