@@ -3,3 +3,4 @@ pub mod RanLemmas
 pub mod StepLemmas
 pub mod BlockedLemmas
 pub mod StandsLemmas
+pub mod EnabledLemmas

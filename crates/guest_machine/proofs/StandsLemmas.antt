@@ -8,9 +8,10 @@ use Rattle.guest_mem.specs.Blocks.{cells_of}
 use Rattle.guest_mem.specs.Laws.{Stands-then}
 use Rattle.rv_model.specs.declared.state.Core.{Core}
 use Rattle.rv_model.specs.declared.state.State.{State}
-use Rattle.rv_model.specs.Step.{Effect, effect, step, memory_of}
+use Rattle.rv_model.specs.Step.{Effect, effect, step, memory_of, enabled, is_enabled}
 use Rattle.guest_machine.specs.declared.note.Note.{Note}
-use Rattle.guest_machine.specs.Whole.{Whole, Follows, StandsFor, Steps}
+use Rattle.guest_machine.specs.Waiting.{wait_at}
+use Rattle.guest_machine.specs.Whole.{Whole, Follows, StandsFor, Steps, may_step}
 
 same_effect : (image there : Layout) (cells memory : Cells) (core now : Core) (tid : ℕ) → image ≡ there → ((address : ℕ) → cells address ≡ memory address) → core ≡ now
     → effect image cells core tid ≡ effect there memory now tid
@@ -36,3 +37,20 @@ follows_steps old now before tid shown follows stands =
         memory = Stands-then (opening_cells now.image) (cells_of old.blocks) (cells_of now.blocks) before.writes (effect now.image (memory_of now.image before) before.core tid).writes first second;
       };
     }
+
+-- what the machine shows is what the state shows that it stands for
+
+shown_in : {T : Type 0} (f : Cells → Core → T) (whole : Whole) (state : State) → StandsFor whole state
+    → f (cells_of whole.blocks) whole.core ≡ f (memory_of whole.image state) state.core
+shown_in {T} f whole state stands =
+    ap (λ (cells : Cells). f cells whole.core) (fun_ext stands.memory) ∙ ap (λ (core : Core). f (memory_of whole.image state) core) stands.core
+
+pub enabled_there : (whole : Whole) (state : State) (tid : ℕ) → StandsFor whole state → may_step whole tid ≡ is_enabled whole.image state tid
+unfolding is_enabled
+enabled_there whole state tid stands = shown_in (λ (cells : Cells) (core : Core). enabled whole.image cells core tid) whole state stands
+
+pub waits_there : (whole : Whole) (state : State) (tid : ℕ) → StandsFor whole state
+    → wait_at whole.image (cells_of whole.blocks) whole.core tid ≡ wait_at whole.image (memory_of whole.image state) state.core tid
+waits_there whole state tid stands = shown_in (λ (cells : Cells) (core : Core). wait_at whole.image cells core tid) whole state stands
+
+pub ruleset stood_for = (enabled_there, waits_there)

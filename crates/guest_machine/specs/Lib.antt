@@ -3,3 +3,4 @@ pub mod Ran
 pub mod Spans
 pub mod Hearing
 pub mod Whole
+pub mod Waiting

@@ -3,6 +3,7 @@
 
 mod after;
 mod alone;
+mod enabled;
 pub mod machine;
 mod memory_access;
 pub mod note;
@@ -11,5 +12,6 @@ mod span;
 #[cfg(test)]
 mod tests;
 mod threads;
+pub mod wait;
 
 pub use odr_list::memory::Memory;

@@ -1,6 +1,6 @@
 //! The machine: its threads over one memory, changed in place by one atomic step at a time.
 
-ghost use Rattle.std.specs.Prelude.{◌≡◌, ℕ, ◌+◌, ◌<◌, ◌^◌, ◌≤◌, [], List, length, true, is_some, is_none, slice_index_or, IfOk, IsTrue, IsFalse};
+ghost use Rattle.std.specs.Prelude.{◌≡◌, ℕ, ◌+◌, ◌<◌, ◌^◌, ◌≤◌, [], List, length, take, true, is_some, is_none, slice_index_or, IfOk, IsTrue, IsFalse};
 ghost use Rattle.guest_mem.specs.Accesses.{byte_of};
 ghost use Rattle.guest_mem.specs.Blocks.{cells_of};
 ghost use Rattle.rv_model.specs.declared.state.State.{State};
@@ -8,21 +8,25 @@ ghost use Rattle.rv32_decode.specs.Valid.{IsValid};
 ghost use Rattle.rv_model.specs.Thread.{register};
 ghost use Rattle.rv_model.specs.Calls.{made, waits, owner_of};
 ghost use Rattle.rv_model.specs.Instruction.{act, asked_at, asked_by, access_of, reserving};
-ghost use Rattle.rv_model.specs.Step.{thread_at, memory_of, opening, effect, applied, faulted, instr_at, next_instr, reach_at, reach_of};
+ghost use Rattle.rv_model.specs.Step.{thread_at, memory_of, opening, effect, applied, faulted, instr_at, next_instr, reach_at, reach_of, is_enabled};
+ghost use Rattle.rv_model.specs.Run.{end_of};
 ghost use Rattle.guest_calls.specs.Table.{is_live};
 ghost use Rattle.guest_machine.specs.Hearing.{heard_of};
+ghost use Rattle.guest_machine.specs.Waiting.{wait_at, held_up, enabled_threads, enabled_in};
 ghost use Rattle.guest_machine.specs.Whole.{StandsFor, Steps, Follows, may_step};
 
 use crate::after::{child_of, go_on, halt_then, reserving, wins};
+use crate::enabled::put_if;
 use crate::note::Note;
 use crate::run::{args_of, run};
 use crate::span::written;
 use crate::threads::Threads;
+use crate::wait::{Wait, held_up};
 use elf_image::image::Image;
 use guest_calls::call_state::CallState;
 use guest_mem::guest_memory::GuestMem;
 use odr_list::memory::Memory;
-use odr_log::log::Cause;
+use odr_log::log::{Cause, End};
 use rv_model::state::{Halt, Local, Thread};
 use rv32_decode::decode;
 use rv32_decode::instr::Instr;
@@ -74,7 +78,7 @@ impl<'a> Machine<'a> {
     }
 
     /// Whether a thread whose next instruction is a guest call waits in it.
-    #[tactic(auto, using(crate::proofs::BlockedLemmas::blocked_there), unfolding(rv_model::specs::Instruction::asked_by))]
+    #[tactic(auto, unfolding(rv_model::specs::Instruction::asked_by))]
     fn is_blocked(&self, tid: u8) -> bool
         requires { tid < length self.now.core.threads }
         ensures { result ≡ waits self.now.core.calls tid (asked_at (thread_at self.now.core tid).local (next_instr self.now.image self.now.core tid) (reach_at self.now.image (cells_of self.now.blocks) self.now.core tid)) }
@@ -88,14 +92,39 @@ impl<'a> Machine<'a> {
 
     /// Whether a thread may step: it was made and has not ended, no lock or join holds it up, and the machine
     /// has not halted.
-    #[tactic(auto, unfolding(rv_model::specs::Step::enabled))]
+    #[tactic(auto, using(crate::proofs::StandsLemmas::stood_for))]
     pub fn enabled(&self, tid: u8) -> bool
-        ensures { result ≡ may_step self.now tid }
+        ensures value { result ≡ may_step self.now tid }
+        ensures state { (state : State) → StandsFor self.now state → result ≡ is_enabled self.now.image state tid }
+        ensures there { IsTrue result → tid < length self.now.core.threads }
+    {
+        self.is_enabled(tid)
+    }
+
+    #[tactic(auto, unfolding(rv_model::specs::Step::enabled))]
+    fn is_enabled(&self, tid: u8) -> bool
+        ensures value { result ≡ may_step self.now tid }
+        ensures there { IsTrue result → tid < length self.now.core.threads }
     {
         (tid as usize) < self.threads.len()
             && self.calls.end_value(u32::from(tid)).is_none()
             && self.halt.is_none()
             && !self.is_blocked(tid)
+    }
+
+    /// The threads that may step, in rising order, put first into `into`; the answer is their number.
+    #[tactic(auto, using(crate::proofs::EnabledLemmas::enabled_lists))]
+    pub fn enabled_list(&self, into: &mut [u8; 8]) -> usize
+        ensures number { result ≡ length (enabled_threads self.now) }
+        ensures threads { take result into.new ≡ enabled_threads self.now }
+        ensures place { length into.new ≡ 8 }
+        ensures state { (state : State) → StandsFor self.now state → enabled_threads self.now ≡ enabled_in self.now.image state }
+    {
+        let mut count = 0;
+        for tid in 0..self.threads() {
+            count = put_if(into, count, tid, self.enabled(tid));
+        }
+        count
     }
 
     /// Does the instruction that a thread is at.
@@ -152,6 +181,44 @@ impl<'a> Machine<'a> {
         ensures { result ≡ is_some self.now.core.halt }
     {
         self.halt.is_some()
+    }
+
+    /// The end that the log of a run has which ends here.
+    pub fn end(&self) -> End
+        ensures { result ≡ end_of self.now.core }
+    {
+        match self.halt {
+            Some(Halt::Exited { tid, code }) => End::Exited { tid, code },
+            Some(Halt::Faulted { tid, cause }) => End::Faulted { tid, cause },
+            None if self.calls.all_ended() => End::AllDone,
+            None => End::Cut,
+        }
+    }
+
+    /// What a thread waits for, by the rule of blocking alone: a halt changes nothing of it.
+    #[tactic(auto, using(crate::proofs::StandsLemmas::stood_for))]
+    pub fn wait(&self, tid: u8) -> Wait
+        requires { tid < length self.now.core.threads }
+        ensures value { result ≡ wait_at self.now.image (cells_of self.now.blocks) self.now.core tid }
+        ensures state { (state : State) → StandsFor self.now state → result ≡ wait_at self.now.image (memory_of self.now.image state) state.core tid }
+    {
+        match self.calls.end_value(u32::from(tid)) {
+            Some(value) => Wait::Ended(value),
+            None => self.held_up(tid),
+        }
+    }
+
+    /// What the next instruction of a thread waits for.
+    #[tactic(auto, unfolding(rv_model::specs::Instruction::asked_by))]
+    fn held_up(&self, tid: u8) -> Wait
+        requires { tid < length self.now.core.threads }
+        ensures { result ≡ held_up self.now.core.calls tid (asked_at (thread_at self.now.core tid).local (next_instr self.now.image self.now.core tid) (reach_at self.now.image (cells_of self.now.blocks) self.now.core tid)) }
+    {
+        let local = self.threads.get(tid).local;
+        match instr_at(self.image, local.pc) {
+            Ok(Instr::Ecall) => held_up(&self.calls, tid, args_of(&local)),
+            _ => Wait::Ready,
+        }
     }
 
     /// The number of threads that were made.

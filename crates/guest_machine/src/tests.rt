@@ -1,5 +1,7 @@
 use crate::machine::Machine;
+use crate::wait::Wait;
 use elf_image::image::Image;
+use odr_log::log::End;
 use std::test::Fail;
 
 /// A program that writes "hi" and a line feed: two program headers, 32 bytes of code and 3 of data.
@@ -20,6 +22,10 @@ const HELLO: [u8; 151] = [
 fn hello_runs_to_its_end(rt: HostRuntime) -> Result<(), Fail> {
     let image = Image::read(rt.alloc(), &HELLO)?;
     let mut machine = Machine::load(rt.alloc(), &image, Vec::new(rt.alloc()))?;
+    let mut enabled = [9; 8];
+    assert_eq!(rt; machine.enabled_list(&mut enabled), 1);
+    assert_eq!(rt; enabled[0], 0);
+    assert_eq!(rt; machine.end(), End::Cut);
     // After each step its pc, a0 and a7.
     for (pc, a0, a7) in [
         (0x1_0004, 0x10_0000, 0),
@@ -42,6 +48,9 @@ fn hello_runs_to_its_end(rt: HostRuntime) -> Result<(), Fail> {
     }
     assert!(rt; machine.halted());
     assert!(rt; machine.threads() == 1);
+    assert_eq!(rt; machine.enabled_list(&mut enabled), 0);
+    assert_eq!(rt; machine.end(), End::Exited { tid: 0, code: 0 });
+    assert_eq!(rt; machine.wait(0), Wait::Ready);
     assert_eq!(rt; machine.retired(0), 8);
     assert_eq!(rt; machine.owner(0), None);
     assert_eq!(rt; machine.byte(0x10_0000), Some(0x68));
