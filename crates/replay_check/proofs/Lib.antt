@@ -1,0 +1,7 @@
+pub mod TestLemmas
+pub mod LoggedLemmas
+pub mod MetLemmas
+pub mod AllMetLemmas
+pub mod BoundLemmas
+pub mod AlongLemmas
+pub mod AnswerLemmas
