@@ -5,6 +5,7 @@ use Rattle.std.specs.Io.KnownBytes.{append_known}
 use Rattle.odr_io.specs.Outside.{Held, held_at}
 use Rattle.elf_image.specs.Layout.{Layout}
 use Rattle.odr_log.specs.declared.log.Log.{Log}
+use Rattle.odr_log.specs.Tape.{output_of}
 use Rattle.odr_words.specs.declared.job.Job.{Job}
 use Rattle.odr_words.specs.declared.job.Job.TheVariants as job
 use Rattle.rv32_asm.specs.declared.fault.AsmFault.{AsmFault}
@@ -14,13 +15,13 @@ use Rattle.rv_model.specs.Law.{NoDifferenceIsLog}
 use Rattle.rv_model.specs.Run.{HasLog, first_diff}
 use Rattle.odr_top.specs.declared.refusal.Refusal.{Refusal}
 use Rattle.odr_top.specs.declared.refusal.Refusal.TheVariants as refusal
-use Rattle.odr_top.specs.Verdict.{Verdict, BadWords, NotBuilt, NoFile, BadElf, BadLog, LogTooLarge, BadLine, UnknownName, TextTooLarge, Differs, Inferred, Assembled, status_of, out_text, saved_text, memory_line}
-use Rattle.odr_top.specs.Inputs.{IsProgram, NoProgram, IsRecording, NoRecording, IsSource, NoSource, fault_verdict, RefusesBytes}
-use Rattle.odr_top.specs.Owes.{by_difference, only_schedule, inference, Owes, OwesWords, Answers, AnswersWords}
-use Rattle.odr_top.specs.Refused.{verdict_of, line_of, exit_of}
+use Rattle.odr_top.specs.Verdict.{Verdict, BadWords, NotBuilt, NoFile, BadElf, BadLog, LogTooLarge, BadLine, UnknownName, TextTooLarge, InputTooLarge, Differs, Inferred, Assembled, Recorded, Replayed, status_of, out_text, saved_text, memory_line}
+use Rattle.odr_top.specs.Inputs.{IsProgram, NoProgram, IsRecording, NoRecording, IsScheduleFile, NoScheduleFile, IsSource, NoSource, fault_verdict, RefusesBytes}
+use Rattle.odr_top.specs.Owes.{by_difference, by_replay, only_schedule, inference, Owes, OwesWords, Answers, AnswersWords}
+use Rattle.odr_top.specs.Refused.{verdict_of, line_of, exit_of, IsOwed}
 use Rattle.odr_top.specs.Report.{Reported, PartOfLine}
 use Rattle.odr_top.specs.Loaded.{GivesTold}
-use Rattle.odr_top.specs.Answer.{Concluded, LeavesText, IsExplained, FoundRun, InferredRun, IsAssembled, MadeProgram, Assembled as AssembledProgram, PartOfOut, IsErrLine, CutShort}
+use Rattle.odr_top.specs.Answer.{Concluded, LeavesText, IsExplained, FoundRun, InferredRun, IsAssembled, MadeProgram, Assembled as AssembledProgram, IsReplayed, WroteOutput, Replayed as ReplayedRun, PartOfOut, IsErrLine, CutShort}
 
 -- ---- reports
 
@@ -37,6 +38,7 @@ reported given status before after line not_memory not_device is told same = by_
   by_case (refusal.BadLine l) status before after m d is told = record { verdict = BadLine l; of_refusal = refl; status_is = is; err_is = told }
   by_case (refusal.UnknownName l) status before after m d is told = record { verdict = UnknownName l; of_refusal = refl; status_is = is; err_is = told }
   by_case refusal.TextTooLarge status before after m d is told = record { verdict = TextTooLarge; of_refusal = refl; status_is = is; err_is = told }
+  by_case refusal.InputTooLarge status before after m d is told = record { verdict = InputTooLarge; of_refusal = refl; status_is = is; err_is = told }
   by_case (refusal.Differs place) status before after m d is told = record { verdict = Differs place; of_refusal = refl; status_is = is; err_is = told }
   by_case refusal.Device status before after m d is told = absurd (d is)
   by_case refusal.Memory status before after m d is told = absurd (m is)
@@ -104,6 +106,8 @@ found_by law before after elf log out steps ob oa (Inferred schedule) e answers 
     record { schedule = schedule; explained = explained law before elf log out steps schedule owed; saved = leaves; printed = printed }
 found_by law before after elf log out steps ob oa (Assembled file) e answers owed leaves printed = absurd answers
 found_by law before after elf log out steps ob oa BadWords e answers owed leaves printed = absurd answers
+found_by law before after elf log out steps ob oa (Recorded made) e answers owed leaves printed = absurd answers
+found_by law before after elf log out steps ob oa (Replayed output) e answers owed leaves printed = absurd answers
 found_by law before after elf log out steps ob oa NotBuilt e answers owed leaves printed = absurd (let f : 0 ≡ 12 = e in cc)
 found_by law before after elf log out steps ob oa (NoFile name) e answers owed leaves printed = absurd (let f : 0 ≡ 14 = e in cc)
 found_by law before after elf log out steps ob oa (BadElf failed) e answers owed leaves printed = absurd (let f : 0 ≡ 3 = e in cc)
@@ -112,6 +116,7 @@ found_by law before after elf log out steps ob oa LogTooLarge e answers owed lea
 found_by law before after elf log out steps ob oa (BadLine line) e answers owed leaves printed = absurd (let f : 0 ≡ 5 = e in cc)
 found_by law before after elf log out steps ob oa (UnknownName line) e answers owed leaves printed = absurd (let f : 0 ≡ 5 = e in cc)
 found_by law before after elf log out steps ob oa TextTooLarge e answers owed leaves printed = absurd (let f : 0 ≡ 5 = e in cc)
+found_by law before after elf log out steps ob oa InputTooLarge e answers owed leaves printed = absurd (let f : 0 ≡ 5 = e in cc)
 found_by law before after elf log out steps ob oa (Differs place) e answers owed leaves printed = absurd (let f : 0 ≡ 9 = e in cc)
 
 pub inferred : NoDifferenceIsLog → (before after : Option Held) (words : Option Job) (ob oa eb ea : Option (List ℕ)) → Concluded before after words 0 ob oa eb ea → InferredRun before after words ob oa
@@ -151,6 +156,8 @@ made_by before after text elf ob oa (Assembled file) e answers owed leaves print
     record { file = file; assembled = made before text elf file owed; saved = leaves; printed = printed }
 made_by before after text elf ob oa (Inferred schedule) e answers owed leaves printed = absurd answers
 made_by before after text elf ob oa BadWords e answers owed leaves printed = absurd answers
+made_by before after text elf ob oa (Recorded made) e answers owed leaves printed = absurd answers
+made_by before after text elf ob oa (Replayed output) e answers owed leaves printed = absurd answers
 made_by before after text elf ob oa NotBuilt e answers owed leaves printed = absurd (let f : 0 ≡ 12 = e in cc)
 made_by before after text elf ob oa (NoFile name) e answers owed leaves printed = absurd (let f : 0 ≡ 14 = e in cc)
 made_by before after text elf ob oa (BadElf failed) e answers owed leaves printed = absurd (let f : 0 ≡ 3 = e in cc)
@@ -159,6 +166,7 @@ made_by before after text elf ob oa LogTooLarge e answers owed leaves printed = 
 made_by before after text elf ob oa (BadLine line) e answers owed leaves printed = absurd (let f : 0 ≡ 5 = e in cc)
 made_by before after text elf ob oa (UnknownName line) e answers owed leaves printed = absurd (let f : 0 ≡ 5 = e in cc)
 made_by before after text elf ob oa TextTooLarge e answers owed leaves printed = absurd (let f : 0 ≡ 5 = e in cc)
+made_by before after text elf ob oa InputTooLarge e answers owed leaves printed = absurd (let f : 0 ≡ 5 = e in cc)
 made_by before after text elf ob oa (Differs place) e answers owed leaves printed = absurd (let f : 0 ≡ 9 = e in cc)
 
 pub assembled : (before after : Option Held) (words : Option Job) (ob oa eb ea : Option (List ℕ)) → Concluded before after words 0 ob oa eb ea → AssembledProgram before after words ob oa
@@ -171,6 +179,110 @@ assembled before after (Some (job.Check elf log cert)) ob oa eb ea end = tt
 assembled before after (Some (job.Replay elf log sched)) ob oa eb ea end = tt
 assembled before after (Some (job.Debug elf log sched)) ob oa eb ea end = tt
 assembled before after (Some (job.Demo number)) ob oa eb ea end = tt
+
+-- ---- a replay
+
+pub owed_replay : (told second third : Option Held) (elf log sched : List ℕ) (image : Layout) (l : Log) (schedule : List ℕ) (v : Verdict)
+    → GivesTold IsProgram told elf image → second ≡ told → GivesTold IsRecording second log l → third ≡ second → GivesTold IsScheduleFile third sched schedule
+    → v ≡ by_replay l (first_diff image l schedule) → IfSome told (λ held. Owes held (job.Replay elf log sched) v)
+owed_replay None second third elf log sched image l schedule v program same recording also text is = tt
+owed_replay (Some held) second third elf log sched image l schedule v program same recording also text is =
+    let here : GivesTold IsRecording (Some held) log l = subst (λ (o : Option Held). GivesTold IsRecording o log l) same recording in
+    let there : GivesTold IsScheduleFile (Some held) sched schedule = subst (λ (o : Option Held). GivesTold IsScheduleFile o sched schedule) (also ∙ same) text in
+    inr (image, program, inr (l, here, inr (schedule, there, is)))
+
+replay_answers : (elf log sched : List ℕ) (l : Log) (place : Option ℕ) → Answers (job.Replay elf log sched) (by_replay l place)
+replay_answers elf log sched l None = tt
+replay_answers elf log sched l (Some place) = tt
+
+-- a refusal by the replay
+pub replay_refused : (told second third : Option Held) (elf log sched : List ℕ) (image : Layout) (l : Log) (schedule : List ℕ) (o : Option Verdict)
+    → GivesTold IsProgram told elf image → second ≡ told → GivesTold IsRecording second log l → third ≡ second → GivesTold IsScheduleFile third sched schedule
+    → IfSome o (λ v. v ≡ by_replay l (first_diff image l schedule)) → IfSome o (IsOwed told (job.Replay elf log sched))
+replay_refused told second third elf log sched image l schedule None program same recording also text is = tt
+replay_refused told second third elf log sched image l schedule (Some v) program same recording also text is = (
+  subst (λ (w : Verdict). Answers (job.Replay elf log sched) w) (sym is) (replay_answers elf log sched l (first_diff image l schedule)),
+  owed_replay told second third elf log sched image l schedule v program same recording also text is,
+)
+
+not_replayed_program : (name : List ℕ) (o : Option (List ℕ)) (output : List ℕ) → RefusesBytes NoProgram name o (Replayed output) → ⊥
+not_replayed_program name None output e = cc
+not_replayed_program name (Some file) output (inl large) = (let e = large.1 in cc)
+not_replayed_program name (Some file) output (inr fails) = (let e = fails.3 in cc)
+
+not_replayed_log : (name : List ℕ) (o : Option (List ℕ)) (output : List ℕ) → RefusesBytes NoRecording name o (Replayed output) → ⊥
+not_replayed_log name None output e = cc
+not_replayed_log name (Some file) output (inl large) = (let e = large.1 in cc)
+not_replayed_log name (Some file) output (inr bad) = (let e = bad.3 in cc)
+
+not_replayed_text : (name : List ℕ) (o : Option (List ℕ)) (output : List ℕ) → RefusesBytes NoScheduleFile name o (Replayed output) → ⊥
+not_replayed_text name None output e = cc
+not_replayed_text name (Some file) output (inl large) = (let e = large.1 in cc)
+not_replayed_text name (Some file) output (inr bad) = (let e = bad.3 in cc)
+
+replayed_by : (output : List ℕ) (l : Log) (place : Option ℕ) → Replayed output ≡ by_replay l place → (output ≡ output_of l) × (place ≡ None)
+replayed_by output l None e = ((let f : Replayed output ≡ Replayed (output_of l) = e in cc), refl)
+replayed_by output l (Some place) e = absurd (let f : Replayed output ≡ Differs place = e in cc)
+
+replayed_in : NoDifferenceIsLog → (held : Held) (elf log sched output : List ℕ) → Owes held (job.Replay elf log sched) (Replayed output) → IsReplayed held elf log sched output
+replayed_in law held elf log sched output (inl refused) = absurd (not_replayed_program elf (held_at held elf) output refused)
+replayed_in law held elf log sched output (inr (image, gives, inl refused)) = absurd (not_replayed_log log (held_at held log) output refused)
+replayed_in law held elf log sched output (inr (image, gives, inr (l, recorded, inl refused))) = absurd (not_replayed_text sched (held_at held sched) output refused)
+replayed_in law held elf log sched output (inr (image, gives, inr (l, recorded, inr (schedule, text, e)))) =
+    let same = replayed_by output l (first_diff image l schedule) e in
+    record {
+      schedule = schedule;
+      text = text.file;
+      text_held = text.found;
+      is_text = text.is.is_text;
+      explained = record {
+        program = gives.file;
+        recording = recorded.file;
+        program_held = gives.found;
+        recording_held = recorded.found;
+        image = image;
+        meaning = l;
+        is_image = gives.is.is_image;
+        is_log = recorded.is.is_log;
+        has_log = (law image l schedule).0 same.1;
+      };
+      output_is = same.0;
+    }
+
+replayed_told : NoDifferenceIsLog → (told : Option Held) (elf log sched output : List ℕ)
+    → IfSome told (λ held. Owes held (job.Replay elf log sched) (Replayed output)) → IfSome told (λ held. IsReplayed held elf log sched output)
+replayed_told law None elf log sched output owed = tt
+replayed_told law (Some held) elf log sched output owed = replayed_in law held elf log sched output owed
+
+wrote_by : NoDifferenceIsLog → (before : Option Held) (elf log sched : List ℕ) (ob oa : Option (List ℕ)) (v : Verdict) → 0 ≡ status_of v
+    → Answers (job.Replay elf log sched) v → IfSome before (λ held. Owes held (job.Replay elf log sched) v)
+    → oa ≡ append_known ob (out_text v) → WroteOutput before elf log sched ob oa
+wrote_by law before elf log sched ob oa (Replayed output) e answers owed printed =
+    record { output = output; replayed = replayed_told law before elf log sched output owed; printed = printed }
+wrote_by law before elf log sched ob oa (Inferred schedule) e answers owed printed = absurd answers
+wrote_by law before elf log sched ob oa (Assembled file) e answers owed printed = absurd answers
+wrote_by law before elf log sched ob oa (Recorded made) e answers owed printed = absurd answers
+wrote_by law before elf log sched ob oa BadWords e answers owed printed = absurd answers
+wrote_by law before elf log sched ob oa NotBuilt e answers owed printed = absurd (let f : 0 ≡ 12 = e in cc)
+wrote_by law before elf log sched ob oa (NoFile name) e answers owed printed = absurd (let f : 0 ≡ 14 = e in cc)
+wrote_by law before elf log sched ob oa (BadElf failed) e answers owed printed = absurd (let f : 0 ≡ 3 = e in cc)
+wrote_by law before elf log sched ob oa (BadLog offset) e answers owed printed = absurd (let f : 0 ≡ 4 = e in cc)
+wrote_by law before elf log sched ob oa LogTooLarge e answers owed printed = absurd (let f : 0 ≡ 4 = e in cc)
+wrote_by law before elf log sched ob oa (BadLine line) e answers owed printed = absurd (let f : 0 ≡ 5 = e in cc)
+wrote_by law before elf log sched ob oa (UnknownName line) e answers owed printed = absurd (let f : 0 ≡ 5 = e in cc)
+wrote_by law before elf log sched ob oa TextTooLarge e answers owed printed = absurd (let f : 0 ≡ 5 = e in cc)
+wrote_by law before elf log sched ob oa InputTooLarge e answers owed printed = absurd (let f : 0 ≡ 5 = e in cc)
+wrote_by law before elf log sched ob oa (Differs place) e answers owed printed = absurd (let f : 0 ≡ 9 = e in cc)
+
+pub replayed : NoDifferenceIsLog → (before after : Option Held) (words : Option Job) (ob oa eb ea : Option (List ℕ)) → Concluded before after words 0 ob oa eb ea → ReplayedRun before words ob oa
+replayed law before after None ob oa eb ea end = tt
+replayed law before after (Some (job.Replay elf log sched)) ob oa eb ea end = wrote_by law before elf log sched ob oa end.verdict end.status_is end.answers end.owed end.out_is
+replayed law before after (Some (job.Infer elf log out steps)) ob oa eb ea end = tt
+replayed law before after (Some (job.Asm text elf)) ob oa eb ea end = tt
+replayed law before after (Some (job.Record elf log seed limit input)) ob oa eb ea end = tt
+replayed law before after (Some (job.Check elf log cert)) ob oa eb ea end = tt
+replayed law before after (Some (job.Debug elf log sched)) ob oa eb ea end = tt
+replayed law before after (Some (job.Demo number)) ob oa eb ea end = tt
 
 -- ---- a call that was cut short
 
@@ -190,6 +302,7 @@ err_line told words refusal.LogTooLarge owed = inr (inr (LogTooLarge, refl, owed
 err_line told words (refusal.BadLine line) owed = inr (inr (BadLine line, refl, owed.0, owed.1))
 err_line told words (refusal.UnknownName line) owed = inr (inr (UnknownName line, refl, owed.0, owed.1))
 err_line told words refusal.TextTooLarge owed = inr (inr (TextTooLarge, refl, owed.0, owed.1))
+err_line told words refusal.InputTooLarge owed = inr (inr (InputTooLarge, refl, owed.0, owed.1))
 err_line told words (refusal.Differs place) owed = inr (inr (Differs place, refl, owed.0, owed.1))
 
 pub cut_short : (told : Option Held) (words : Option Job) (given : Refusal) (ob oa eb ea : Option (List ℕ)) → IfSome (verdict_of given) (IsOwedBy told words)
@@ -203,3 +316,30 @@ bad_words_owed told None e = (refl, owed told) where
   owed None = tt
   owed (Some held) = refl
 bad_words_owed told (Some j) e = absurd cc
+
+-- ---- words that are no job
+
+no_other_two : (j : Job) (v : Verdict) → Answers j v → 2 ≡ status_of v → ⊥
+no_other_two j BadWords answers e = answers
+no_other_two j NotBuilt answers e = (let f : 2 ≡ 12 = e in cc)
+no_other_two j (NoFile name) answers e = (let f : 2 ≡ 14 = e in cc)
+no_other_two j (BadElf failed) answers e = (let f : 2 ≡ 3 = e in cc)
+no_other_two j (BadLog offset) answers e = (let f : 2 ≡ 4 = e in cc)
+no_other_two j LogTooLarge answers e = (let f : 2 ≡ 4 = e in cc)
+no_other_two j (BadLine line) answers e = (let f : 2 ≡ 5 = e in cc)
+no_other_two j (UnknownName line) answers e = (let f : 2 ≡ 5 = e in cc)
+no_other_two j TextTooLarge answers e = (let f : 2 ≡ 5 = e in cc)
+no_other_two j InputTooLarge answers e = (let f : 2 ≡ 5 = e in cc)
+no_other_two j (Differs place) answers e = (let f : 2 ≡ 9 = e in cc)
+no_other_two j (Inferred schedule) answers e = (let f : 2 ≡ 0 = e in cc)
+no_other_two j (Assembled file) answers e = (let f : 2 ≡ 0 = e in cc)
+no_other_two j (Recorded made) answers e = (let f : 2 ≡ 0 = e in cc)
+no_other_two j (Replayed output) answers e = (let f : 2 ≡ 0 = e in cc)
+
+pub two_is_no_job : (before after : Option Held) (words : Option Job) (ob oa eb ea : Option (List ℕ)) → Concluded before after words 2 ob oa eb ea → words ≡ None
+two_is_no_job before after None ob oa eb ea end = refl
+two_is_no_job before after (Some j) ob oa eb ea end = absurd (no_other_two j end.verdict end.answers end.status_is)
+
+pub no_job_is_two : (before after : Option Held) (words : Option Job) (status : ℕ) (ob oa eb ea : Option (List ℕ)) → Concluded before after words status ob oa eb ea → words ≡ None → status ≡ 2
+no_job_is_two before after None status ob oa eb ea end e = end.status_is ∙ ap status_of end.answers
+no_job_is_two before after (Some j) status ob oa eb ea end e = absurd cc

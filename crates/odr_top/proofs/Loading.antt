@@ -6,7 +6,7 @@ use Rattle.odr_io.specs.Outside.{Held, held_at, HoldsNothing, HoldsMore}
 use Rattle.odr_words.specs.declared.job.Job.{Job}
 use Rattle.odr_top.specs.declared.refusal.Refusal.{Refusal}
 use Rattle.odr_top.specs.declared.refusal.Refusal.TheVariants as refusal
-use Rattle.odr_top.specs.Verdict.{Verdict, BadWords, NotBuilt, NoFile, BadElf, BadLog, LogTooLarge, BadLine, UnknownName, TextTooLarge, Differs, Inferred, Assembled}
+use Rattle.odr_top.specs.Verdict.{Verdict, BadWords, NotBuilt, NoFile, BadElf, BadLog, LogTooLarge, BadLine, UnknownName, TextTooLarge, InputTooLarge, Differs, Inferred, Assembled, Recorded, Replayed}
 use Rattle.odr_top.specs.Inputs.{Gives, RefusesBytes, Refuses}
 use Rattle.odr_top.specs.Owes.{Owes, loads, IsOneOf, Answers}
 use Rattle.odr_top.specs.Refused.{verdict_of, IsOwed, Justified}
@@ -65,6 +65,7 @@ outside_refuses Not told name refusal.LogTooLarge o = absurd o
 outside_refuses Not told name (refusal.BadLine l) o = absurd o
 outside_refuses Not told name (refusal.UnknownName l) o = absurd o
 outside_refuses Not told name refusal.TextTooLarge o = absurd o
+outside_refuses Not told name refusal.InputTooLarge o = absurd o
 outside_refuses Not told name (refusal.Differs p) o = absurd o
 
 -- a load that was refused; `too_long` has the verdict `v`, and files above the limit are refused so
@@ -92,9 +93,12 @@ answers_input j name LogTooLarge one of = tt
 answers_input j name (BadLine line) one of = tt
 answers_input j name (UnknownName line) one of = tt
 answers_input j name TextTooLarge one of = tt
+answers_input j name InputTooLarge one of = tt
 answers_input j name (Differs place) one of = absurd of
 answers_input j name (Inferred schedule) one of = absurd of
 answers_input j name (Assembled file) one of = absurd of
+answers_input j name (Recorded log) one of = absurd of
+answers_input j name (Replayed output) one of = absurd of
 
 both : (told : Option Held) (P Q : Held → Type 0) → IfSome told (λ held. P held → Q held) → IfSome told P → IfSome told Q
 both None P Q f p = tt

@@ -13,9 +13,12 @@ use Rattle.odr_words.specs.declared.job.Job.TheVariants as job
 use Rattle.rv32_asm.specs.declared.fault.AsmFault.{AsmFault}
 use Rattle.rv32_asm.specs.declared.fault.AsmFault.TheVariants as asm
 use Rattle.rv32_asm.specs.Assembly.{Program, Stops}
+use Rattle.rv_model.specs.Run.{first_diff}
+use Rattle.sched_text.specs.Text.{IsTextOf}
+use Rattle.sched_text.specs.FirstBad.{IsFirstBad}
 use Rattle.odr_top.specs.Verdict.{Verdict, BadWords, TextTooLarge, BadLine, UnknownName, status_of}
-use Rattle.odr_top.specs.Inputs.{IsProgram, NoProgram, IsRecording, NoRecording, IsSource, NoSource, fault_verdict, Gives, RefusesBytes, Refuses, FromFile}
-use Rattle.odr_top.specs.Owes.{inference, Owes, OwesWords}
+use Rattle.odr_top.specs.Inputs.{IsProgram, NoProgram, IsRecording, NoRecording, IsScheduleFile, NoScheduleFile, IsSource, NoSource, fault_verdict, Gives, RefusesBytes, Refuses, FromFile}
+use Rattle.odr_top.specs.Owes.{inference, by_replay, Owes, OwesWords}
 use Rattle.odr_top.specs.Answer.{Concluded}
 use Rattle.odr_top.specs.Report.{IsCut}
 
@@ -25,6 +28,19 @@ OneSpelling = (a b : Log) (rest : List ℕ) → IsInGrammar a → IsInGrammar b 
 
 abbrev pub NoLog : Type 0
 NoLog = (bytes : List ℕ) (p : ℕ) → FirstBad bytes p → ¬ IsSomeLog bytes
+
+-- a text is that of one schedule, and has no bad line then
+abbrev pub OneSchedule : Type 0
+OneSchedule = (s t bytes : List ℕ) → IsTextOf s bytes → IsTextOf t bytes → s ≡ t
+
+abbrev pub NoBadLine : Type 0
+NoBadLine = (s bytes : List ℕ) (line : ℕ) → IsTextOf s bytes → IsFirstBad bytes line → ⊥
+
+pub record Laws : Type 0 where
+  pub spelling : OneSpelling
+  pub no_log : NoLog
+  pub schedule : OneSchedule
+  pub no_bad_line : NoBadLine
 
 -- ---- files of one kind
 
@@ -103,6 +119,22 @@ one_recording spelling no_log = record {
   one_status = λ (file : List ℕ) (v w : Verdict) (a : NoRecording file v) (b : NoRecording file w). recording_status file v a ∙ sym (recording_status file w b);
 }
 
+-- ---- schedules
+
+schedule_apart : NoBadLine → (text schedule : List ℕ) (v : Verdict) → IsScheduleFile text schedule → NoScheduleFile text v → ⊥
+schedule_apart law text schedule v is (inl large) = (let a = large.0 in let b = is.within in omega arith)
+schedule_apart law text schedule v is (inr bad) = law schedule text bad.0 is.is_text bad.2
+
+schedule_status : (text : List ℕ) (v : Verdict) → NoScheduleFile text v → status_of v ≡ 5
+schedule_status text v (inl large) = ap status_of large.1
+schedule_status text v (inr bad) = ap status_of bad.3
+
+one_schedule : NoBadLine → OneReading IsScheduleFile NoScheduleFile
+one_schedule law = record {
+  apart = schedule_apart law;
+  one_status = λ (text : List ℕ) (v w : Verdict) (a : NoScheduleFile text v) (b : NoScheduleFile text w). schedule_status text v a ∙ sym (schedule_status text w b);
+}
+
 -- ---- texts
 
 source_fault : (fault : AsmFault) (v : Verdict) → fault_verdict fault ≡ Some v → status_of v ≡ 5
@@ -144,42 +176,66 @@ one_inference spelling no_log held log a b v w same p q =
     same_verdict v w (inference a x) m (n ∙ ap (inference a) (one_log spelling file x y is also)))
     p (subst (λ (i : Layout). FromFile IsRecording NoRecording held log (λ l u. u ≡ inference i l) w) same q)
 
-one_job : OneSpelling → NoLog → (held : Held) (j : Job) (v w : Verdict) → Owes held j v → Owes held j w → status_of v ≡ status_of w
-one_job spelling no_log held (job.Infer elf log out steps) v w a b =
+one_replay_text : Laws → (held : Held) (sched : List ℕ) (image : Layout) (l : Log) (v w : Verdict)
+    → FromFile IsScheduleFile NoScheduleFile held sched (λ s u. u ≡ by_replay l (first_diff image l s)) v
+    → FromFile IsScheduleFile NoScheduleFile held sched (λ s u. u ≡ by_replay l (first_diff image l s)) w → status_of v ≡ status_of w
+one_replay_text laws held sched image l v w p q =
+    from_file IsScheduleFile NoScheduleFile held sched (λ (s : List ℕ) (u : Verdict). u ≡ by_replay l (first_diff image l s)) v w (one_schedule laws.no_bad_line)
+    (λ (text x y : List ℕ) (is : IsScheduleFile text x) (also : IsScheduleFile text y) (m : v ≡ by_replay l (first_diff image l x)) (n : w ≡ by_replay l (first_diff image l y)).
+    same_verdict v w (by_replay l (first_diff image l x)) m (n ∙ ap (λ (s : List ℕ). by_replay l (first_diff image l s)) (laws.schedule y x text also.is_text is.is_text)))
+    p q
+
+abbrev AfterImage : Held → List ℕ → List ℕ → Layout → Verdict → Type 0
+AfterImage held log sched image v =
+    FromFile IsRecording NoRecording held log (λ l u. FromFile IsScheduleFile NoScheduleFile held sched (λ s t. t ≡ by_replay l (first_diff image l s)) u) v
+
+one_replay : Laws → (held : Held) (log sched : List ℕ) (a b : Layout) (v w : Verdict) → b ≡ a → AfterImage held log sched a v → AfterImage held log sched b w → status_of v ≡ status_of w
+one_replay laws held log sched a b v w same p q =
+    from_file IsRecording NoRecording held log (λ (l : Log) (u : Verdict). FromFile IsScheduleFile NoScheduleFile held sched (λ s t. t ≡ by_replay l (first_diff a l s)) u) v w (one_recording laws.spelling laws.no_log)
+    (λ (file : List ℕ) (x y : Log) (is : IsRecording file x) (also : IsRecording file y) m n.
+    one_replay_text laws held sched a x v w m
+    (subst (λ (l : Log). FromFile IsScheduleFile NoScheduleFile held sched (λ s t. t ≡ by_replay l (first_diff a l s)) w) (one_log laws.spelling file x y is also) n))
+    p (subst (λ (i : Layout). AfterImage held log sched i w) same q)
+
+one_job : Laws → (held : Held) (j : Job) (v w : Verdict) → Owes held j v → Owes held j w → status_of v ≡ status_of w
+one_job laws held (job.Infer elf log out steps) v w a b =
     from_file IsProgram NoProgram held elf (λ (image : Layout) (u : Verdict). FromFile IsRecording NoRecording held log (λ l t. t ≡ inference image l) u) v w one_program
-    (λ (file : List ℕ) (x y : Layout) (is : IsProgram file x) (also : IsProgram file y) p q. one_inference spelling no_log held log x y v w (one_image file x y is also) p q)
+    (λ (file : List ℕ) (x y : Layout) (is : IsProgram file x) (also : IsProgram file y) p q. one_inference laws.spelling laws.no_log held log x y v w (one_image file x y is also) p q)
     a b
-one_job spelling no_log held (job.Asm text elf) v w a b =
+one_job laws held (job.Asm text elf) v w a b =
     from_file IsSource NoSource held text (λ (file : List ℕ) (u : Verdict). u ≡ Verdict.Assembled file) v w one_source
     (λ (t x y : List ℕ) (is : IsSource t x) (also : IsSource t y) p q. ap status_of p ∙ sym (ap status_of q)) a b
-one_job spelling no_log held (job.Record elf log seed limit input) v w a b = same_verdict v w _ a b
-one_job spelling no_log held (job.Check elf log cert) v w a b = same_verdict v w _ a b
-one_job spelling no_log held (job.Replay elf log sched) v w a b = same_verdict v w _ a b
-one_job spelling no_log held (job.Debug elf log sched) v w a b = same_verdict v w _ a b
-one_job spelling no_log held (job.Demo number) v w a b = same_verdict v w _ a b
+one_job laws held (job.Record elf log seed limit input) v w a b = same_verdict v w _ a b
+one_job laws held (job.Check elf log cert) v w a b = same_verdict v w _ a b
+one_job laws held (job.Replay elf log sched) v w a b =
+    from_file IsProgram NoProgram held elf (λ (image : Layout) (u : Verdict). AfterImage held log sched image u) v w one_program
+    (λ (file : List ℕ) (x y : Layout) (is : IsProgram file x) (also : IsProgram file y) p q. one_replay laws held log sched x y v w (one_image file x y is also) p q)
+    a b
+one_job laws held (job.Debug elf log sched) v w a b = same_verdict v w _ a b
+one_job laws held (job.Demo number) v w a b = same_verdict v w _ a b
 
-pub one_verdict : OneSpelling → NoLog → (held : Held) (words : Option Job) (v w : Verdict) → OwesWords held words v → OwesWords held words w → status_of v ≡ status_of w
-one_verdict spelling no_log held None v w a b = same_verdict v w BadWords a b
-one_verdict spelling no_log held (Some j) v w a b = one_job spelling no_log held j v w a b
+pub one_verdict : Laws → (held : Held) (words : Option Job) (v w : Verdict) → OwesWords held words v → OwesWords held words w → status_of v ≡ status_of w
+one_verdict laws held None v w a b = same_verdict v w BadWords a b
+one_verdict laws held (Some j) v w a b = one_job laws held j v w a b
 
 -- ---- the call
 
-owed_status : OneSpelling → NoLog → (held : Held) (before after : Option Held) (words : Option Job) (status : ℕ) (ob oa eb ea : Option (List ℕ)) → before ≡ Some held
+owed_status : Laws → (held : Held) (before after : Option Held) (words : Option Job) (status : ℕ) (ob oa eb ea : Option (List ℕ)) → before ≡ Some held
     → (status ≢ 1 → status ≢ 6 → Concluded before after words status ob oa eb ea)
     → (verdict : Verdict) → OwesWords held words verdict → (memory device : Bool) → eqb status 1 ≡ memory → eqb status 6 ≡ device → (status ≡ status_of verdict) ⊎ IsCut status
-owed_status spelling no_log held before after words status ob oa eb ea is concluded verdict owed true device m d = inr (inl (eqb-true status 1 m))
-owed_status spelling no_log held before after words status ob oa eb ea is concluded verdict owed false true m d = inr (inr (eqb-true status 6 d))
-owed_status spelling no_log held before after words status ob oa eb ea is concluded verdict owed false false m d =
+owed_status laws held before after words status ob oa eb ea is concluded verdict owed true device m d = inr (inl (eqb-true status 1 m))
+owed_status laws held before after words status ob oa eb ea is concluded verdict owed false true m d = inr (inr (eqb-true status 6 d))
+owed_status laws held before after words status ob oa eb ea is concluded verdict owed false false m d =
     let end : Concluded before after words status ob oa eb ea =
     concluded (λ (e : status ≡ 1). false≢true (sym m ∙ eq-eqb status 1 e)) (λ (e : status ≡ 6). false≢true (sym d ∙ eq-eqb status 6 e)) in
     let theirs : OwesWords held words end.verdict =
     (let P : Option Held → Type 0 = λ (o : Option Held). IfSome o (λ (h : Held). OwesWords h words end.verdict) in subst P is end.owed) in
-    inl (end.status_is ∙ one_verdict spelling no_log held words end.verdict verdict theirs owed)
+    inl (end.status_is ∙ one_verdict laws held words end.verdict verdict theirs owed)
 
 -- Where the store tells what it holds, the status is the owed one, or the call was cut short.
-pub completes : OneSpelling → NoLog → (before after : Option Held) (words : Option Job) (status : ℕ) (ob oa eb ea : Option (List ℕ))
+pub completes : Laws → (before after : Option Held) (words : Option Job) (status : ℕ) (ob oa eb ea : Option (List ℕ))
     → (status ≢ 1 → status ≢ 6 → Concluded before after words status ob oa eb ea)
     → IfSome before (λ held. (verdict : Verdict) → OwesWords held words verdict → (status ≡ status_of verdict) ⊎ IsCut status)
-completes spelling no_log None after words status ob oa eb ea concluded = tt
-completes spelling no_log (Some held) after words status ob oa eb ea concluded = λ (verdict : Verdict) (owed : OwesWords held words verdict).
-    owed_status spelling no_log held (Some held) after words status ob oa eb ea refl concluded verdict owed (eqb status 1) (eqb status 6) refl refl
+completes laws None after words status ob oa eb ea concluded = tt
+completes laws (Some held) after words status ob oa eb ea concluded = λ (verdict : Verdict) (owed : OwesWords held words verdict).
+    owed_status laws held (Some held) after words status ob oa eb ea refl concluded verdict owed (eqb status 1) (eqb status 6) refl refl

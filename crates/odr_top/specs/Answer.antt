@@ -9,9 +9,10 @@ use Rattle.odr_log.specs.declared.log.Log.{Log}
 use Rattle.odr_log.specs.Grammar.{IsLog}
 use Rattle.odr_words.specs.declared.job.Job.{Job}
 use Rattle.odr_words.specs.declared.job.Job.TheVariants as job
+use Rattle.odr_log.specs.Tape.{output_of}
 use Rattle.rv32_asm.specs.File.{AsmFile}
 use Rattle.rv_model.specs.Run.{HasLog}
-use Rattle.sched_text.specs.Text.{schedule_text}
+use Rattle.sched_text.specs.Text.{schedule_text, IsTextOf}
 use Rattle.odr_top.specs.Verdict.{Verdict, status_of, run_line, size_line, out_text, err_text, saved_text, memory_line, device_line}
 use Rattle.odr_top.specs.Owes.{OwesWords, saves, AnswersWords}
 use Rattle.odr_top.specs.Done.{Finishes}
@@ -92,6 +93,25 @@ pub record MadeProgram (before after : Option Held) (text elf : List ℕ) (out_b
 abbrev pub Assembled : Option Held → Option Held → Option Job → Option (List ℕ) → Option (List ℕ) → Type 0
 Assembled before after (Some (job.Asm text elf)) out_before out_after = MadeProgram before after text elf out_before out_after
 Assembled before after other out_before out_after = Unit {0}
+
+-- the store held an image, a log and the text of a schedule that has the log, whose output this is
+pub record IsReplayed (held : Held) (elf log sched : List ℕ) (output : List ℕ) : Type 0 where
+  pub schedule : List ℕ
+  pub text : List ℕ
+  pub text_held : held_at held sched ≡ Some text
+  pub is_text : IsTextOf schedule text
+  pub explained : IsExplained held elf log schedule
+  pub output_is : output ≡ output_of explained.meaning
+
+-- A schedule was replayed: exactly the guest's output was written.
+pub record WroteOutput (before : Option Held) (elf log sched : List ℕ) (out_before out_after : Option (List ℕ)) : Type 0 where
+  pub output : List ℕ
+  pub replayed : IfSome before (λ held. IsReplayed held elf log sched output)
+  pub printed : out_after ≡ append_known out_before output
+
+abbrev pub Replayed : Option Held → Option Job → Option (List ℕ) → Option (List ℕ) → Type 0
+Replayed before (Some (job.Replay elf log sched)) out_before out_after = WroteOutput before elf log sched out_before out_after
+Replayed before other out_before out_after = Unit {0}
 
 -- ---- a call that was cut short
 

@@ -11,6 +11,8 @@ use Rattle.odr_log.specs.Faults.{FitsFile, IsTooLarge, FirstBad}
 use Rattle.rv32_asm.specs.declared.fault.AsmFault.{AsmFault}
 use Rattle.rv32_asm.specs.declared.fault.AsmFault.TheVariants as asm
 use Rattle.rv32_asm.specs.File.{AsmFile, IsRefused}
+use Rattle.sched_text.specs.Text.{IsTextOf}
+use Rattle.sched_text.specs.FirstBad.{IsFirstBad}
 use Rattle.odr_top.specs.Verdict.{Verdict, NoFile, BadElf, BadLog, LogTooLarge, BadLine, UnknownName, TextTooLarge}
 
 -- ---- a program
@@ -34,6 +36,16 @@ pub record IsRecording (file : List ℕ) (log : Log) : Type 0 where
 abbrev pub NoRecording : List ℕ → Verdict → Type 0
 NoRecording file verdict =
     (IsTooLarge file × (verdict ≡ LogTooLarge)) ⊎ ((offset : ℕ) × FitsFile file × FirstBad file offset × (verdict ≡ BadLog offset))
+
+-- ---- a schedule
+
+pub record IsScheduleFile (text schedule : List ℕ) : Type 0 where
+  pub within : length text ≤ 67108864
+  pub is_text : IsTextOf schedule text
+
+abbrev pub NoScheduleFile : List ℕ → Verdict → Type 0
+NoScheduleFile text verdict =
+    ((67108864 < length text) × (verdict ≡ TextTooLarge)) ⊎ ((line : ℕ) × (length text ≤ 67108864) × IsFirstBad text line × (verdict ≡ BadLine line))
 
 -- ---- an assembly text
 

@@ -4,7 +4,7 @@ use Rattle.std.specs.Borrow.{Bor}
 use Rattle.odr_io.specs.Outside.{Held, Holds, HoldsNothing, HoldsMore}
 use Rattle.odr_top.specs.declared.refusal.Refusal.{Refusal}
 use Rattle.odr_top.specs.declared.refusal.Refusal.TheVariants as refusal
-use Rattle.odr_top.specs.Verdict.{Verdict, BadWords, NotBuilt, NoFile, BadElf, BadLog, LogTooLarge, BadLine, UnknownName, TextTooLarge, Differs, Inferred, Assembled}
+use Rattle.odr_top.specs.Verdict.{Verdict, BadWords, NotBuilt, NoFile, BadElf, BadLog, LogTooLarge, BadLine, UnknownName, TextTooLarge, InputTooLarge, Differs, Inferred, Assembled, Recorded, Replayed}
 use Rattle.odr_top.specs.Inputs.{Gives, Refuses}
 use Rattle.odr_top.specs.Refused.{verdict_of}
 use Rattle.odr_top.specs.Report.{IsOutside}
@@ -31,9 +31,12 @@ OfInput name LogTooLarge = Unit {0}
 OfInput name (BadLine line) = Unit {0}
 OfInput name (UnknownName line) = Unit {0}
 OfInput name TextTooLarge = Unit {0}
+OfInput name InputTooLarge = Unit {0}
 OfInput name (Differs place) = ⊥
 OfInput name (Inferred schedule) = ⊥
 OfInput name (Assembled file) = ⊥
+OfInput name (Recorded log) = ⊥
+OfInput name (Replayed output) = ⊥
 
 -- where the store tells what it holds, the file gives this
 abbrev pub GivesTold : {X : Type 0} → (List ℕ → X → Type 0) → Option Held → List ℕ → X → Type 0

@@ -7,12 +7,13 @@ use Rattle.odr_log.specs.declared.log.Log.{Log}
 use Rattle.odr_log.specs.declared.log.End.{End}
 use Rattle.odr_log.specs.declared.log.End.TheVariants as end
 use Rattle.odr_log.specs.Grammar.{steps_of}
+use Rattle.odr_log.specs.Tape.{output_of}
 use Rattle.odr_words.specs.declared.job.Job.{Job}
 use Rattle.odr_words.specs.declared.job.Job.TheVariants as job
 use Rattle.odr_words.specs.Jobs.{job_of}
 use Rattle.rv_model.specs.Run.{first_diff}
-use Rattle.odr_top.specs.Verdict.{Verdict, BadWords, NotBuilt, NoFile, BadElf, BadLog, LogTooLarge, BadLine, UnknownName, TextTooLarge, Differs, Inferred, Assembled}
-use Rattle.odr_top.specs.Inputs.{IsProgram, NoProgram, IsRecording, NoRecording, IsSource, NoSource, FromFile}
+use Rattle.odr_top.specs.Verdict.{Verdict, BadWords, NotBuilt, NoFile, BadElf, BadLog, LogTooLarge, BadLine, UnknownName, TextTooLarge, InputTooLarge, Differs, Inferred, Assembled, Recorded, Replayed}
+use Rattle.odr_top.specs.Inputs.{IsProgram, NoProgram, IsRecording, NoRecording, IsScheduleFile, NoScheduleFile, IsSource, NoSource, FromFile}
 
 -- the job of the words of a command line
 abbrev pub job_in : List (String Global) → Option Job
@@ -39,6 +40,12 @@ abbrev pub inference : Layout → Log → Verdict
 inference image log =
     if nat_eq (length log.threads) 1 then by_difference (only_schedule log) (first_diff image log (only_schedule log)) else NotBuilt
 
+-- ---- replay
+
+abbrev pub by_replay : Log → Option ℕ → Verdict
+by_replay log None = Replayed (output_of log)
+by_replay log (Some place) = Differs place
+
 -- ---- jobs
 
 abbrev pub Owes : Held → Job → Verdict → Type 0
@@ -47,7 +54,9 @@ Owes held (job.Infer elf log out steps) verdict =
 Owes held (job.Asm text elf) verdict = FromFile IsSource NoSource held text (λ file v. v ≡ Assembled file) verdict
 Owes held (job.Record elf log seed limit input) verdict = verdict ≡ NotBuilt
 Owes held (job.Check elf log cert) verdict = verdict ≡ NotBuilt
-Owes held (job.Replay elf log sched) verdict = verdict ≡ NotBuilt
+Owes held (job.Replay elf log sched) verdict =
+    FromFile IsProgram NoProgram held elf (λ image v. FromFile IsRecording NoRecording held log (λ l u.
+    FromFile IsScheduleFile NoScheduleFile held sched (λ s w. w ≡ by_replay l (first_diff image l s)) u) v) verdict
 Owes held (job.Debug elf log sched) verdict = verdict ≡ NotBuilt
 Owes held (job.Demo number) verdict = verdict ≡ NotBuilt
 
@@ -63,7 +72,7 @@ loads (job.Infer elf log out steps) = elf ∷ log ∷ []
 loads (job.Asm text elf) = text ∷ []
 loads (job.Record elf log seed limit input) = []
 loads (job.Check elf log cert) = []
-loads (job.Replay elf log sched) = []
+loads (job.Replay elf log sched) = elf ∷ log ∷ sched ∷ []
 loads (job.Debug elf log sched) = []
 loads (job.Demo number) = []
 
@@ -89,6 +98,14 @@ abbrev pub IsAssembly : Job → Type 0
 IsAssembly (job.Asm text elf) = Unit {0}
 IsAssembly other = ⊥
 
+abbrev pub IsRecord : Job → Type 0
+IsRecord (job.Record elf log seed limit input) = Unit {0}
+IsRecord other = ⊥
+
+abbrev pub IsReplay : Job → Type 0
+IsReplay (job.Replay elf log sched) = Unit {0}
+IsReplay other = ⊥
+
 -- a verdict that a job can have
 abbrev pub Answers : Job → Verdict → Type 0
 Answers j BadWords = ⊥
@@ -100,9 +117,12 @@ Answers j LogTooLarge = Unit {0}
 Answers j (BadLine line) = Unit {0}
 Answers j (UnknownName line) = Unit {0}
 Answers j TextTooLarge = Unit {0}
+Answers j InputTooLarge = Unit {0}
 Answers j (Differs place) = Unit {0}
 Answers j (Inferred schedule) = IsInference j
 Answers j (Assembled file) = IsAssembly j
+Answers j (Recorded log) = IsRecord j
+Answers j (Replayed output) = IsReplay j
 
 abbrev pub AnswersWords : Option Job → Verdict → Type 0
 AnswersWords None verdict = verdict ≡ BadWords

@@ -6,7 +6,7 @@ use Rattle.odr_io.specs.declared.fail.SaveFail.TheVariants as fail
 use Rattle.odr_words.specs.declared.job.Job.{Job}
 use Rattle.odr_top.specs.declared.refusal.Refusal.{Refusal}
 use Rattle.odr_top.specs.declared.refusal.Refusal.TheVariants as refusal
-use Rattle.odr_top.specs.Verdict.{Verdict, BadWords, NotBuilt, NoFile, BadElf, BadLog, LogTooLarge, BadLine, UnknownName, TextTooLarge, Differs, err_text, memory_line, device_line}
+use Rattle.odr_top.specs.Verdict.{Verdict, BadWords, NotBuilt, NoFile, BadElf, BadLog, LogTooLarge, BadLine, UnknownName, TextTooLarge, InputTooLarge, Differs, err_text, memory_line, device_line}
 use Rattle.odr_top.specs.Owes.{Owes, Answers}
 
 -- the verdict of a refusal that the words and the files decide
@@ -20,6 +20,7 @@ verdict_of refusal.LogTooLarge = Some LogTooLarge
 verdict_of (refusal.BadLine line) = Some (BadLine line)
 verdict_of (refusal.UnknownName line) = Some (UnknownName line)
 verdict_of refusal.TextTooLarge = Some TextTooLarge
+verdict_of refusal.InputTooLarge = Some InputTooLarge
 verdict_of (refusal.Differs place) = Some (Differs place)
 verdict_of refusal.Device = None
 verdict_of refusal.Memory = None
@@ -40,6 +41,7 @@ line_of refusal.LogTooLarge = err_text LogTooLarge
 line_of (refusal.BadLine line) = err_text (BadLine line)
 line_of (refusal.UnknownName line) = err_text (UnknownName line)
 line_of refusal.TextTooLarge = err_text TextTooLarge
+line_of refusal.InputTooLarge = err_text InputTooLarge
 line_of (refusal.Differs place) = err_text (Differs place)
 line_of refusal.Device = device_line
 line_of refusal.Memory = memory_line
@@ -54,6 +56,7 @@ exit_of refusal.LogTooLarge = 4
 exit_of (refusal.BadLine line) = 5
 exit_of (refusal.UnknownName line) = 5
 exit_of refusal.TextTooLarge = 5
+exit_of refusal.InputTooLarge = 5
 exit_of (refusal.Differs place) = 9
 exit_of refusal.Device = 6
 exit_of refusal.Memory = 1

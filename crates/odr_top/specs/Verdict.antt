@@ -2,6 +2,12 @@
 use Rattle.std.specs.Prelude.{ℕ, List, [], ◌∷◌, ◌++◌, length, codes, decimal, Option, Some, None}
 use Rattle.elf_image.specs.declared.fault.Check.{Check}
 use Rattle.elf_image.specs.declared.fault.Check.TheVariants as check
+use Rattle.odr_log.specs.declared.log.Cause.{Cause}
+use Rattle.odr_log.specs.declared.log.Cause.TheVariants as cause
+use Rattle.odr_log.specs.declared.log.End.{End}
+use Rattle.odr_log.specs.declared.log.End.TheVariants as end
+use Rattle.odr_log.specs.declared.log.Log.{Log}
+use Rattle.odr_log.specs.Grammar.{log_bytes, steps_of}
 use Rattle.sched_text.specs.Text.{schedule_text}
 
 pub data Verdict : Type 0 where
@@ -20,12 +26,18 @@ pub data Verdict : Type 0 where
   BadLine : (line : ℕ) → Verdict
   UnknownName : (line : ℕ) → Verdict
   TextTooLarge : Verdict
+  -- the input has too many bytes
+  InputTooLarge : Verdict
   -- the schedule differs from the log first at this place
   Differs : (place : ℕ) → Verdict
   -- this schedule has the log
   Inferred : (schedule : List ℕ) → Verdict
   -- these are the bytes of the program
   Assembled : (file : List ℕ) → Verdict
+  -- this is the log of the run
+  Recorded : (log : Log) → Verdict
+  -- the schedule has the log, and the guest wrote this
+  Replayed : (output : List ℕ) → Verdict
 
 abbrev pub status_of : Verdict → ℕ
 status_of BadWords = 2
@@ -37,9 +49,12 @@ status_of LogTooLarge = 4
 status_of (BadLine line) = 5
 status_of (UnknownName line) = 5
 status_of TextTooLarge = 5
+status_of InputTooLarge = 5
 status_of (Differs place) = 9
 status_of (Inferred schedule) = 0
 status_of (Assembled file) = 0
+status_of (Recorded log) = 0
+status_of (Replayed output) = 0
 
 -- ---- the lines
 
@@ -48,6 +63,26 @@ run_line steps = codes "run, " ++ decimal steps ++ codes " steps" ++ 10 ∷ []
 
 abbrev pub size_line : ℕ → List ℕ
 size_line bytes = decimal bytes ++ codes " bytes" ++ 10 ∷ []
+
+abbrev pub cause_name : Cause → List ℕ
+cause_name cause.FetchFault = codes "FetchFault"
+cause_name cause.Illegal = codes "Illegal"
+cause_name cause.Misaligned = codes "Misaligned"
+cause_name cause.LoadFault = codes "LoadFault"
+cause_name cause.StoreFault = codes "StoreFault"
+cause_name cause.AmoFault = codes "AmoFault"
+cause_name cause.Breakpoint = codes "Breakpoint"
+
+abbrev pub end_text : End → List ℕ
+end_text (end.Exited tid code) = codes "exit " ++ decimal tid ++ codes " " ++ decimal code
+end_text (end.Faulted tid fault) = codes "fault " ++ decimal tid ++ codes " " ++ cause_name fault
+end_text end.AllDone = codes "done"
+end_text end.Cut = codes "cut"
+
+-- the steps of all threads, the calls, and how the run ended
+abbrev pub record_line : Log → List ℕ
+record_line log =
+    codes "steps " ++ decimal (steps_of log) ++ codes ", calls " ++ decimal (length log.calls) ++ codes ", end " ++ end_text log.end ++ 10 ∷ []
 
 abbrev pub memory_line : List ℕ
 memory_line = codes "odr: out of memory" ++ 10 ∷ []
@@ -83,9 +118,12 @@ err_text LogTooLarge = codes "odr: log: too large" ++ 10 ∷ []
 err_text (BadLine line) = codes "odr: text: line " ++ decimal line ++ 10 ∷ []
 err_text (UnknownName line) = codes "odr: text: unknown name, line " ++ decimal line ++ 10 ∷ []
 err_text TextTooLarge = codes "odr: text: too large" ++ 10 ∷ []
+err_text InputTooLarge = codes "odr: input: too large" ++ 10 ∷ []
 err_text (Differs place) = codes "odr: differs at " ++ decimal place ++ 10 ∷ []
 err_text (Inferred schedule) = []
 err_text (Assembled file) = []
+err_text (Recorded log) = []
+err_text (Replayed output) = []
 
 -- what goes to out
 abbrev pub out_text : Verdict → List ℕ
@@ -98,9 +136,12 @@ out_text LogTooLarge = []
 out_text (BadLine line) = []
 out_text (UnknownName line) = []
 out_text TextTooLarge = []
+out_text InputTooLarge = []
 out_text (Differs place) = []
 out_text (Inferred schedule) = run_line (length schedule)
 out_text (Assembled file) = size_line (length file)
+out_text (Recorded log) = record_line log
+out_text (Replayed output) = output
 
 -- what is saved
 abbrev pub saved_text : Verdict → Option (List ℕ)
@@ -113,6 +154,9 @@ saved_text LogTooLarge = None
 saved_text (BadLine line) = None
 saved_text (UnknownName line) = None
 saved_text TextTooLarge = None
+saved_text InputTooLarge = None
 saved_text (Differs place) = None
 saved_text (Inferred schedule) = Some (schedule_text schedule)
 saved_text (Assembled file) = Some file
+saved_text (Recorded log) = Some (log_bytes log)
+saved_text (Replayed output) = None

@@ -15,7 +15,7 @@ use odr_io::files::Files;
 use odr_list::bytes::Bytes;
 use odr_list::memory::Memory;
 use odr_log::log::{End, Log};
-use rv_model::run::first_difference;
+use replay_check::replay::{Replayed, replay};
 use sched_text::schedule::Schedule;
 use sched_text::write::write_schedule;
 use std::alloc::Global;
@@ -59,9 +59,9 @@ fn explain<'a>(alloc: Global, image: &Image, log: &Log) -> Result<Schedule, Refu
         return Err(Refusal::NotBuilt);
     }
     let schedule = only_schedule(alloc, log)?;
-    match first_difference(alloc, image, log, schedule.as_slice())? {
-        None => Ok(schedule),
-        Some(place) => Err(Refusal::Differs(place as u64)),
+    match replay(alloc, image, log, &schedule)? {
+        Replayed::Same { .. } => Ok(schedule),
+        Replayed::Differs { place } => Err(Refusal::Differs(place)),
     }
 }
 

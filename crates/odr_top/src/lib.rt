@@ -12,5 +12,6 @@ mod line;
 mod load;
 mod prepare;
 pub mod refusal;
+mod replay;
 mod report;
 pub mod run;

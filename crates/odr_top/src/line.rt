@@ -47,6 +47,7 @@ pub fn line_of(alloc: Global, refusal: Refusal<'_>) -> Result<String, Memory>
         Refusal::BadLine(line) => format!(in alloc; "odr: text: line {line}\n")?,
         Refusal::UnknownName(line) => format!(in alloc; "odr: text: unknown name, line {line}\n")?,
         Refusal::TextTooLarge => String::from_str(alloc, "odr: text: too large\n")?,
+        Refusal::InputTooLarge => String::from_str(alloc, "odr: input: too large\n")?,
         Refusal::Differs(place) => format!(in alloc; "odr: differs at {place}\n")?,
         Refusal::Device => String::from_str(alloc, "odr: device\n")?,
         Refusal::Memory => String::from_str(alloc, "odr: out of memory\n")?,
@@ -63,7 +64,10 @@ pub fn exit_of(refusal: Refusal<'_>) -> u8
         Refusal::NoFile(_) => 14,
         Refusal::BadElf(_) => 3,
         Refusal::BadLog(_) | Refusal::LogTooLarge => 4,
-        Refusal::BadLine(_) | Refusal::UnknownName(_) | Refusal::TextTooLarge => 5,
+        Refusal::BadLine(_)
+        | Refusal::UnknownName(_)
+        | Refusal::TextTooLarge
+        | Refusal::InputTooLarge => 5,
         Refusal::Differs(_) => 9,
         Refusal::Device => 6,
         Refusal::Memory => 1,

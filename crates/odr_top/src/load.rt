@@ -1,7 +1,7 @@
 ghost use Rattle.std.specs.Prelude.{◌≡◌, ◌≢◌, ◌≤◌, length, IfOk, IfErr, IsErrOf};
 ghost use Rattle.odr_io.specs.Outside.{Rose};
 ghost use Rattle.odr_log.specs.Grammar.{IsValid};
-ghost use Rattle.odr_top.specs.Inputs.{IsProgram, NoProgram, IsRecording, NoRecording, IsSource, NoSource};
+ghost use Rattle.odr_top.specs.Inputs.{IsProgram, NoProgram, IsRecording, NoRecording, IsScheduleFile, NoScheduleFile, IsSource, NoSource};
 ghost use Rattle.elf_image.specs.Fault.{check_of};
 ghost use Rattle.odr_top.specs.Loaded.{Found, Turned, GivesTold, RefusesTold, RefusesContent};
 
@@ -14,6 +14,9 @@ use odr_list::bytes::Bytes;
 use odr_log::log::Log;
 use odr_log::{LogFault, read_log};
 use rv32_asm::{AsmFault, assemble};
+use sched_text::fault::SchedFault;
+use sched_text::read::read_schedule;
+use sched_text::schedule::Schedule;
 use std::alloc::Global;
 
 /// The most bytes of a program's file.
@@ -21,6 +24,9 @@ const ELF_LIMIT: u64 = 16_777_216;
 
 /// The most bytes of a log's file.
 const LOG_LIMIT: u64 = 67_108_864;
+
+/// The most bytes of a schedule's text.
+const SCHEDULE_LIMIT: u64 = 67_108_864;
 
 /// The most bytes of an assembly text.
 const SOURCE_LIMIT: u64 = 1_048_576;
@@ -104,6 +110,20 @@ fn log_in<'a>(alloc: Global, bytes: &[u8]) -> Result<Log, Refusal<'a>>
     }
 }
 
+/// The schedule of which bytes are the text.
+fn schedule_in<'a>(alloc: Global, text: &[u8]) -> Result<Schedule, Refusal<'a>>
+    requires { length text.now ≤ 67108864 }
+    ensures found { IfOk result (IsScheduleFile text.now) }
+    ensures refused { IfErr result (RefusesContent NoScheduleFile text.now) }
+    ensures no_fault { result ≢ Err Refusal.Device }
+{
+    match read_schedule(alloc, text) {
+        Ok(schedule) => Ok(schedule),
+        Err(SchedFault::Bad { line }) => Err(Refusal::BadLine(line)),
+        Err(SchedFault::Memory) => Err(Refusal::Memory),
+    }
+}
+
 /// The program that an assembly text becomes.
 fn program_in<'a>(alloc: Global, text: &[u8]) -> Result<Bytes, Refusal<'a>>
     requires { length text.now ≤ 1048576 }
@@ -152,6 +172,22 @@ pub fn load_log<'a, F: Files>(
 {
     let bytes = load(alloc, files, name, LOG_LIMIT, Refusal::LogTooLarge)?;
     log_in(alloc, bytes.as_slice())
+}
+
+/// The schedule whose text a file holds.
+pub fn load_schedule<'a, F: Files>(
+    alloc: Global,
+    files: &mut F,
+    name: &'a str,
+) -> Result<Schedule, Refusal<'a>>
+    ensures found { IfOk result (GivesTold IsScheduleFile (F.held files.old) name.now) }
+    ensures refused { IfErr result (RefusesTold NoScheduleFile (F.held files.old) name.now) }
+    ensures kept { F.held files.new ≡ F.held files.old }
+    ensures failed { IsErrOf result Refusal.Device → Rose (F.faults files.old) (F.faults files.new) }
+    ensures steady { result ≢ Err Refusal.Device → F.faults files.new ≡ F.faults files.old }
+{
+    let text = load(alloc, files, name, SCHEDULE_LIMIT, Refusal::TextTooLarge)?;
+    schedule_in(alloc, text.as_slice())
 }
 
 /// The program that the text of a file becomes.

@@ -7,6 +7,7 @@ use crate::asm::asm;
 use crate::done::Done;
 use crate::infer::infer;
 use crate::refusal::Refusal;
+use crate::replay::replay_log;
 use odr_io::files::Files;
 use odr_words::job::Job;
 use std::alloc::Global;
@@ -38,10 +39,11 @@ pub fn prepare<'a, F: Files>(
             *steps,
         ),
         Job::Asm { text, elf } => asm(alloc, files, text.as_str(), elf.as_str()),
-        Job::Record { .. }
-        | Job::Check { .. }
-        | Job::Replay { .. }
-        | Job::Debug { .. }
-        | Job::Demo { .. } => Err(Refusal::NotBuilt),
+        Job::Replay { elf, log, sched } => {
+            replay_log(alloc, files, elf.as_str(), log.as_str(), sched.as_str())
+        }
+        Job::Record { .. } | Job::Check { .. } | Job::Debug { .. } | Job::Demo { .. } => Err(
+            Refusal::NotBuilt,
+        ),
     }
 }

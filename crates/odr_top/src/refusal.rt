@@ -23,6 +23,8 @@ pub enum Refusal<'a> {
     UnknownName(u64),
     /// A text, or what is made of it, is too large.
     TextTooLarge,
+    /// An input has too many bytes.
+    InputTooLarge,
     /// The schedule differs from the log first at this place.
     Differs(u64),
     /// A store or a sink failed.

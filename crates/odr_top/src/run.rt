@@ -5,7 +5,7 @@ ghost use Rattle.odr_top.specs.Verdict.{Verdict, status_of, device_line};
 ghost use Rattle.odr_top.specs.Owes.{job_in, OwesWords};
 ghost use Rattle.odr_top.specs.Refused.{verdict_of, Justified};
 ghost use Rattle.odr_top.specs.Report.{IsCut};
-ghost use Rattle.odr_top.specs.Answer.{KeepsInputs, Concluded, InferredRun, Assembled, MayFinish, HasSavedWhole, PartOfOut, CutShort, Finished};
+ghost use Rattle.odr_top.specs.Answer.{KeepsInputs, Concluded, InferredRun, Assembled, Replayed, MayFinish, HasSavedWhole, PartOfOut, CutShort, Finished};
 
 use crate::finish::finish;
 use crate::prepare::prepare;
@@ -19,6 +19,7 @@ use odr_words::fault::WordsFault;
 use odr_words::job::Job;
 use odr_words::read_words;
 use rv_model::law::no_difference_is_log;
+use sched_text::laws::{one_first_bad_line, one_schedule_of_a_text};
 use std::alloc::Global;
 
 /// Does a job.
@@ -101,7 +102,8 @@ fn answer_words<F: Files, O: Sink, E: Sink>(
 ///
 /// `infer ELF LOG OUT [--steps N]` takes a program and a log of one thread. It answers 0, saves the schedule's text
 /// under OUT and prints the run's line where the one schedule has the log, and 9 where it hasn't; a log of more
-/// threads is answered 12. `asm TEXT ELF` assembles a text, saves the program under ELF and prints its size.
+/// threads is answered 12. `replay ELF LOG SCHED` runs a schedule over the log's inputs and writes what the guest wrote
+/// where the schedule has the log. `asm TEXT ELF` assembles a text, saves the program under ELF and prints its size.
 ///
 /// Refusals are 2 for words that are no job, 14 where nothing is held under a name that is loaded, 3 for a file that
 /// is no image, 4 for one that is no log, 5 for a text at fault, 12 for a command that is not built, 6 where a store
@@ -119,6 +121,9 @@ pub fn odr_run<F: Files, S: Source, O: Sink, E: Sink>(
 
     // With status 0 of an assembly the file holds the program of the text, and its line was printed.
     ensures assembled { result ≡ 0 → Assembled (F.held files.old) (F.held files.new) (job_in words.now) (O.written out.old) (O.written out.new) }
+
+    // With status 0 of a replay exactly the output was written of a log that the schedule has.
+    ensures replayed { result ≡ 0 → Replayed (F.held files.old) (job_in words.now) (O.written out.old) (O.written out.new) }
 
     // Every status but 1 and 6 is owed, its file was left and no other, exactly its lines were printed, and nothing failed.
     ensures causes { result ≢ 1 → result ≢ 6 → Concluded (F.held files.old) (F.held files.new) (job_in words.now) result (O.written out.old) (O.written out.new) (E.written err.old) (E.written err.new) }
@@ -148,5 +153,7 @@ pub fn odr_run<F: Files, S: Source, O: Sink, E: Sink>(
     one_spelling();
     one_first_bad();
     no_difference_is_log();
+    one_schedule_of_a_text();
+    one_first_bad_line();
     answer_words(alloc, words, files, out, err)
 }

@@ -14,6 +14,11 @@ returns-in-Ok-clause-cut_short g c =
     subst (λ (o : Option Job). CutShort (g.F.Files.held c.args.files.now) o (g.O.Sink.written c.args.out.now) (g.O.Sink.written c.answer.new.out)
     (g.E.Sink.written c.args.err.now) (g.E.Sink.written c.answer.new.err)) (sym c.in-Ok.ensures.job) (c.answer.ensures.cut_short cut)
 
+pub returns-in-Ok-clause-saved_first : goal.returns-in-Ok-clause-saved_first
+returns-in-Ok-clause-saved_first g c =
+    subst (λ (o : Option Job). (c.answer.new.out ≡ c.args.out.now) ⊎ HasSavedWhole (g.F.Files.held c.args.files.now) (g.F.Files.held c.answer.new.files) o)
+    (sym c.in-Ok.ensures.job) c.answer.ensures.saved_first
+
 pub returns-in-Ok-clause-whole_or_kept : goal.returns-in-Ok-clause-whole_or_kept
 returns-in-Ok-clause-whole_or_kept g c =
     λ (steady : Rose (g.F.Files.faults c.args.files.now) (g.F.Files.faults c.answer.new.files) → ⊥).
