@@ -1,7 +1,8 @@
 -- A note of a call as the record of that call: the same call, whose bytes are the same.
-use Rattle.std.specs.Prelude.{◌≤◌, length}
+use Rattle.std.specs.Prelude.{◌<◌, ◌≤◌, ◌^◌, length}
 use Rattle.odr_log.specs.declared.log.Call.{Call}
 use Rattle.odr_log.specs.declared.log.Call.TheVariants as call
+use Rattle.odr_log.specs.Grammar.{IsText}
 use Rattle.guest_calls.specs.declared.note.CallNote.{CallNote}
 use Rattle.guest_calls.specs.declared.note.CallNote.TheVariants as note
 
@@ -26,3 +27,16 @@ abbrev pub HasFewBytes : Call → Type 0
 HasFewBytes (call.Write bytes) = length bytes ≤ 256
 HasFewBytes (call.Read want bytes) = length bytes ≤ 256
 HasFewBytes other = Unit {0}
+
+-- the numbers and the bytes of a call fit their fields in a log; a child's number is no matter of its note
+abbrev pub FitsFields : Call → Type 0
+FitsFields (call.Exit code) = code < 2 ^ 32
+FitsFields (call.Spawn entry child) = entry < 2 ^ 32
+FitsFields (call.Join target ok) = target < 2 ^ 32
+FitsFields (call.Lock mutex ok) = mutex < 2 ^ 32
+FitsFields (call.Unlock mutex ok) = mutex < 2 ^ 32
+FitsFields (call.TryLock mutex got) = mutex < 2 ^ 32
+FitsFields (call.Write bytes) = IsText bytes
+FitsFields (call.Read want bytes) = (want < 2 ^ 32) × IsText bytes
+FitsFields (call.Unknown number) = number < 2 ^ 32
+FitsFields other = Unit {0}

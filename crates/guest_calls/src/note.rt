@@ -1,5 +1,6 @@
-ghost use Rattle.std.specs.Prelude.{◌≡◌, ◌↔◌, IsTrue, IfOk};
-ghost use Rattle.guest_calls.specs.Notes.{call_of, HasFewBytes};
+ghost use Rattle.std.specs.Prelude.{◌≡◌, ◌≤◌, ◌↔◌, length, IsTrue, IfOk};
+ghost use Rattle.odr_log.specs.Grammar.{IsText};
+ghost use Rattle.guest_calls.specs.Notes.{call_of, HasFewBytes, FitsFields};
 
 use crate::piece::Piece;
 use odr_list::bytes::Bytes;
@@ -27,6 +28,16 @@ pub enum CallNote {
     Unknown { number: u32 },
 }
 
+/// The bytes of a call as a text of a log.
+fn text_of(alloc: Global, bytes: &[u8]) -> Result<Bytes, Memory>
+    requires { length bytes.now ≤ 256 }
+    ensures value { IfOk result (λ text. text ≡ bytes.now) }
+    ensures few { IfOk result (λ text. length text ≤ 256) }
+    ensures spelled { IfOk result IsText }
+{
+    Bytes::from_slice(alloc, bytes)
+}
+
 impl CallNote {
     /// The record of the call.
     ///
@@ -36,43 +47,44 @@ impl CallNote {
     pub fn to_call(&self, alloc: Global) -> Result<Call, Memory>
         ensures value { IfOk result (λ call. call ≡ call_of self.now) }
         ensures few { IfOk result (λ call. HasFewBytes call) }
+        ensures fields { IfOk result (λ call. FitsFields call) }
     {
-        Ok(match self {
-            CallNote::Exit { code } => Call::Exit { code: *code },
-            CallNote::EndThread => Call::EndThread,
-            CallNote::Spawn { entry, child } => Call::Spawn {
+        match self {
+            CallNote::Exit { code } => Ok(Call::Exit { code: *code }),
+            CallNote::EndThread => Ok(Call::EndThread),
+            CallNote::Spawn { entry, child } => Ok(Call::Spawn {
                 entry: *entry,
                 child: *child,
-            },
-            CallNote::Join { target, ok } => Call::Join {
+            }),
+            CallNote::Join { target, ok } => Ok(Call::Join {
                 target: *target,
                 ok: *ok,
-            },
-            CallNote::Lock { mutex, ok } => Call::Lock {
+            }),
+            CallNote::Lock { mutex, ok } => Ok(Call::Lock {
                 mutex: *mutex,
                 ok: *ok,
-            },
-            CallNote::Unlock { mutex, ok } => Call::Unlock {
+            }),
+            CallNote::Unlock { mutex, ok } => Ok(Call::Unlock {
                 mutex: *mutex,
                 ok: *ok,
-            },
-            CallNote::TryLock { mutex, got } => Call::TryLock {
+            }),
+            CallNote::TryLock { mutex, got } => Ok(Call::TryLock {
                 mutex: *mutex,
                 got: *got,
-            },
-            CallNote::Write { bytes } => Call::Write {
-                bytes: Bytes::from_slice(alloc, bytes.as_slice())?,
-            },
-            CallNote::WriteBad => Call::WriteBad,
-            CallNote::Read { want, bytes } => Call::Read {
+            }),
+            CallNote::Write { bytes } => Ok(Call::Write {
+                bytes: text_of(alloc, bytes.as_slice())?,
+            }),
+            CallNote::WriteBad => Ok(Call::WriteBad),
+            CallNote::Read { want, bytes } => Ok(Call::Read {
                 want: *want,
-                bytes: Bytes::from_slice(alloc, bytes.as_slice())?,
-            },
-            CallNote::ReadBad => Call::ReadBad,
-            CallNote::SelfId => Call::SelfId,
-            CallNote::Yield => Call::Yield,
-            CallNote::Unknown { number } => Call::Unknown { number: *number },
-        })
+                bytes: text_of(alloc, bytes.as_slice())?,
+            }),
+            CallNote::ReadBad => Ok(Call::ReadBad),
+            CallNote::SelfId => Ok(Call::SelfId),
+            CallNote::Yield => Ok(Call::Yield),
+            CallNote::Unknown { number } => Ok(Call::Unknown { number: *number }),
+        }
     }
 
     /// Whether this is the note of a recorded call.
