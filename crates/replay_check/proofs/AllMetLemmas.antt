@@ -71,11 +71,11 @@ is_log log state happened met version has all =
     made_of log (thread_logs 0 state.core.threads happened) (records_of happened) (end_of state.core) version
     (logs_are 0 state.core.threads happened log.threads all.threads
     (λ (i j : ℕ) (within : i < length state.core.threads) (e : 0 + i ≡ j).
-        let same : i ≡ j = omega arith in (
-          (all.each i within).0,
-          ap (λ (k : ℕ). path_of k happened) (sym same)
-              ∙ front_whole (path_of i happened) (get_or met.items i 0) (logged log i).path (has.items i) (all.each i within).1,
-        )))
+    let same : i ≡ j = omega arith in (
+      (all.each i within).0,
+      ap (λ (k : ℕ). path_of k happened) (sym same)
+          ∙ front_whole (path_of i happened) (get_or met.items i 0) (logged log i).path (has.items i) (all.each i within).1,
+    )))
     (front_whole (records_of happened) met.calls log.calls has.calls all.calls) all.end
 
 has_all : (log : Log) (state : State) (happened : List Event) (met : Met) → HasMet log happened met → log_of state happened ≡ log → IsAllMet log state.core met
@@ -83,11 +83,11 @@ unfolding log_of
 has_all log state happened met has e = record {
   threads = sym (length-logs 0 state.core.threads happened) ∙ ap (λ (l : Log). length l.threads) e;
   each = λ (t : ℕ) (within : t < length state.core.threads). (
-      sym (logs-at 0 t t state.core.threads happened within (omega arith)).0 ∙ ap (λ (l : Log). (get_or l.threads t nothing_logged).steps) e,
-      sym (front_count (path_of t happened) (get_or met.items t 0) (logged log t).path (has.items t))
-          ∙ (ap length (sym (logs-at 0 t t state.core.threads happened within (omega arith)).1)
-          ∙ ap (λ (l : Log). length (get_or l.threads t nothing_logged).path) e),
-    );
+    sym (logs-at 0 t t state.core.threads happened within (omega arith)).0 ∙ ap (λ (l : Log). (get_or l.threads t nothing_logged).steps) e,
+    sym (front_count (path_of t happened) (get_or met.items t 0) (logged log t).path (has.items t))
+        ∙ (ap length (sym (logs-at 0 t t state.core.threads happened within (omega arith)).1)
+        ∙ ap (λ (l : Log). length (get_or l.threads t nothing_logged).path) e),
+  );
   calls = sym (front_count (records_of happened) met.calls log.calls has.calls) ∙ ap (λ (l : Log). length l.calls) e;
   end = ap (λ (l : Log). l.end) e;
 }

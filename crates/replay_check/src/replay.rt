@@ -39,7 +39,12 @@ pub enum Replayed {
 /// # Errors
 ///
 /// `Memory` alone.
-pub fn replay(alloc: Global, image: &Image, log: &Log, schedule: &Schedule) -> Result<Replayed, Memory>
+pub fn replay(
+    alloc: Global,
+    image: &Image,
+    log: &Log,
+    schedule: &Schedule,
+) -> Result<Replayed, Memory>
     requires { IsValid log.now }
     ensures place { IfOk result (λ answer. answer ≡ answer_of (first_diff image.now log.now schedule.now) (output_of log.now)) }
     ensures same { IfOk result (λ answer. (answer ≡ Replayed.Same (output_of log.now)) ↔ HasLog image.now log.now schedule.now) }
