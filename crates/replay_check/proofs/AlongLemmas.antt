@@ -1,8 +1,7 @@
 -- A replay along a schedule: the machine stands for the model's run so far, and what has been met is what happened.
-use Rattle.std.specs.Prelude.{◌≡◌, ◌↔◌, ℕ, zero, suc, ◌+◌, ◌<◌, ◌≤◌, ◌^◌, replicate, Bool, true, false, ◌&&◌, cond, List, [], ◌∷◌, ◌++◌, length, drop, Option, Some, None, option_map, refl}
+use Rattle.std.specs.Prelude.{◌≡◌, ◌↔◌, ℕ, zero, suc, ◌+◌, ◌<◌, ◌≤◌, replicate, Bool, true, false, ◌&&◌, cond, List, [], ◌∷◌, ◌++◌, length, Option, Some, None, option_map, refl}
 use Rattle.std.proofs.Common.{sym, ◌∙◌, ap, subst, arith, get_or}
-use Rattle.std.proofs.Math.Seq.{drop-cons}
-use Rattle.std.proofs.lemmas.Bool.{and_parts, false≢true}
+use Rattle.std.proofs.lemmas.Bool.{and_parts}
 use Rattle.std.proofs.lemmas.List.{drop_all}
 use Rattle.elf_image.specs.Layout.{Layout}
 use Rattle.odr_log.specs.declared.log.Log.{Log}
@@ -37,13 +36,6 @@ pub record Along (image : Layout) (log : Log) (schedule : List ℕ) (place : ℕ
   pub few : AtMost 250000 state.core
   pub so_far : SoFar image log schedule place state happened
 
--- the room that a step asks for
-pub has_room : (image : Layout) (log : Log) (schedule : List ℕ) (place : ℕ) (machine : Whole) (met : Met) (t : ℕ) → Along image log schedule place machine met
-    → (thread_at machine.core t).retired + 1 < 2 ^ 32
-has_room image log schedule place machine met t along =
-    let few : (thread_at along.state.core t).retired ≤ 250000 = along.few.each t in
-    omega (arith, ap (λ (core : Core). (thread_at core t).retired) along.stands.core)
-
 -- one step
 
 pub advanced : (log : Log) (state : State) (happened : List Event) (t at : ℕ) (old now : Whole) (met then : Met) (shown : machine.Note) (next : Bool)
@@ -74,13 +66,6 @@ advanced log state happened t at old now met then shown next few able at_is imag
                 subst Q (sym (goes so)) (subst R event_is met_then);
           };
     }
-
-pub not_advanced : (log : Log) (state : State) (happened : List Event) (t : ℕ) (old now : Whole) (then : Met) → is_enabled old.image state t ≡ false
-    → Advances log state happened t old.image false now then
-not_advanced log state happened t old now then not_able = record {
-  answer = ap (λ (b : Bool). b && agrees log happened (event_of old.image state t)) (sym not_able);
-  further = λ (e : false ≡ true). absurd (false≢true e);
-}
 
 -- along a schedule
 
@@ -142,21 +127,6 @@ along_on image log schedule place t old now met then next valid along within is 
 
 place_of : (place : ℕ) → option_map (λ (k : ℕ). place + k) (Some 0) ≡ Some place
 place_of place = let e : place + 0 ≡ place = omega arith in ap Some e
-
-pub along_differs : (image : Layout) (log : Log) (schedule : List ℕ) (place t : ℕ) (old now : Whole) (met then : Met) (next : Bool)
-    → Along image log schedule place old met → place < length schedule → get_or schedule place 0 ≡ t
-    → Tells log t old met next now then → next ≡ false → Some place ≡ first_diff image log schedule
-along_differs image log schedule place t old now met then next along within is tells unlike =
-    let goes : Advances log along.state along.happened t image next now then = told image log schedule place t old now met then next along tells in
-    let unfit : fits image log along.state along.happened t ≡ false = sym goes.answer ∙ unlike in
-    let cut : drop place schedule ≡ t ∷ drop (suc place) schedule =
-    drop-cons schedule place 0 within ∙ ap (λ (x : ℕ). x ∷ drop (suc place) schedule) is in
-    sym (along.so_far.rest
-    ∙ (ap (option_map (λ (k : ℕ). place + k))
-    (ap (differs_from image log along.state along.happened) cut
-    ∙ ap (λ (b : Bool). cond b
-    (option_map suc (differs_from image log (step image along.state t).state (along.happened ++ event_of image along.state t ∷ []) (drop (suc place) schedule))) (Some 0)) unfit)
-    ∙ place_of place))
 
 ending : (place : ℕ) (b : Bool) → option_map (λ (k : ℕ). place + k) (cond b None (Some 0)) ≡ cond b None (Some place)
 ending place true = refl

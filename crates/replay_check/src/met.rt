@@ -20,6 +20,7 @@ pub struct Met {
 }
 
 impl Met {
+    /// Before the first step.
     pub fn nothing() -> Met
         ensures { result ≡ record { items = replicate 8 0; calls = 0 } }
     {
@@ -50,6 +51,7 @@ impl Met {
         }
     }
 
+    /// Whether an item is the next one of a thread's path, which is then met.
     fn meets_item(&mut self, log: &Log, tid: u8, item: PathItem) -> bool
         requires { tid < 8 }
         ensures next { result ≡ option_test (same_item item) (slice_get (logged log.now tid).path (slice_index self.old.items tid)) }
@@ -63,6 +65,7 @@ impl Met {
         true
     }
 
+    /// Whether the log's next record is of this call, which is then met.
     fn meets_call(&mut self, log: &Log, tid: u8, at: u32, call: &CallNote) -> bool
         ensures next { result ≡ option_test (same_rec (record { tid = tid; at = at; call = call_of call.now })) (slice_get log.now.calls self.old.calls) }
         ensures past { IsTrue result → self.new ≡ past_call self.old }

@@ -46,6 +46,7 @@ pub fn steps_logged(log: &Log, tid: u8) -> u32
     }
 }
 
+/// Whether the item at a place of a path is this one.
 pub fn is_item_at(path: &[PathItem], at: usize, item: PathItem) -> bool
     ensures value { result ≡ option_test (same_item item) (slice_get path.now at) }
     ensures within { IsTrue result → at < length path.now }

@@ -18,6 +18,7 @@ fn is_thread_met(machine: &Machine<'_>, log: &Log, met: &Met, tid: u8) -> bool
         && met.items[tid as usize] == path_logged(log, tid).len()
 }
 
+/// Whether every thread has.
 fn are_threads_met(machine: &Machine<'_>, log: &Log, met: &Met) -> bool
     ensures met { IsTrue result → (thread : ℕ) → thread < length machine.now.core.threads → IsThreadMet log.now machine.now.core met.now thread }
     ensures every { ((thread : ℕ) → thread < length machine.now.core.threads → IsThreadMet log.now machine.now.core met.now thread) → IsTrue result }
