@@ -1,19 +1,14 @@
-//! Worked rows: whole runs of the program and of its parts, whose answers were worked out by hand from the
-//! formats and from the RISC-V standard. There is nothing here but tests, of what no contract says: that the
-//! calls succeed with ample memory, and that the definitions mean what the standard says.
+//! Worked rows of the program: words and files go in, a status, lines and files come out, as the formats say. There is
+//! nothing here but tests, of what no contract says: that calls succeed with ample memory, and what they print.
 #![tactic(auto)]
 
 #[cfg(test)]
-mod calls;
+mod assembly;
 #[cfg(test)]
-mod first_path;
+mod inference;
 #[cfg(test)]
-mod instructions;
+mod recording;
 #[cfg(test)]
-mod programs;
+mod row;
 #[cfg(test)]
-mod reservations;
-#[cfg(test)]
-mod runs;
-#[cfg(test)]
-mod stepping;
+mod words;

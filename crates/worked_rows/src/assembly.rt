@@ -1,0 +1,236 @@
+//! Assembly: a text goes in, a program comes out.
+
+use crate::row::{Row, meets, meets_all};
+use guest_programs::logs::HELLO_FILE;
+use guest_programs::programs::{
+    BREAKPOINT, BYTES_MERGE, COMPUTED_ADDRESS, DEADLOCK, DIVIDE, EIGHT_THREADS, HELLO, HELLO_TEXT,
+    KEPT_LOCK, LOCKED, LOST_UPDATE, MISALIGNED_STORE, NO_CODE, Program, RACING_FAULT, SEEDED_CUT,
+    STORE_BUFFERING, STORE_CONDITIONAL_PAIRS, TAPE, UNKNOWN_CALL,
+};
+use guest_programs::texts::{ACCESS_LIMIT, DEMO_FRONT, DEMO_REST, DIVIDE_LEAST, TWELVE_CELLS};
+use std::alloc::{AllocError, Global};
+use std::process::Abort;
+use std::test::Fail;
+
+const WORDS: [&str; 3] = ["asm", "text.s", "elf"];
+
+/// The text of hello.
+const ASSEMBLED: Row<'static> = Row {
+    held: &[("text.s", HELLO_TEXT, &[])],
+    before: &[],
+    words: &WORDS,
+    failing: [&[], &[], &[]],
+    status: 0,
+    out: b"151 bytes\n",
+    err: "",
+    saved: ("elf", Some(&HELLO_FILE)),
+};
+
+/// A text at fault.
+const BAD_TEXT: Row<'static> = Row {
+    status: 5,
+    out: b"",
+    saved: ("elf", None),
+    ..ASSEMBLED
+};
+
+/// A store or a sink that fails.
+const DEVICE: Row<'static> = Row {
+    status: 6,
+    out: b"",
+    err: "odr: device\n",
+    saved: ("elf", None),
+    ..ASSEMBLED
+};
+
+static ROWS: [Row<'static>; 13] = [
+    ASSEMBLED,
+    // No further call is made: one would fail.
+    Row {
+        failing: [&[2], &[1], &[0]],
+        ..ASSEMBLED
+    },
+    Row {
+        words: &["asm", "text.s", "text.s"],
+        saved: ("text.s", Some(&HELLO_FILE)),
+        ..ASSEMBLED
+    },
+    Row {
+        held: &[("text.s", b"addi a0, a0, 2048", &[])],
+        err: "odr: text: line 1\n",
+        ..BAD_TEXT
+    },
+    Row {
+        held: &[("text.s", b"j away", &[])],
+        err: "odr: text: unknown name, line 1\n",
+        ..BAD_TEXT
+    },
+    Row {
+        held: &[("text.s", b"", &[])],
+        err: "odr: text: line 1\n",
+        ..BAD_TEXT
+    },
+    Row {
+        held: &[("text.s", b"j away; nothing; ecall;", &[])],
+        err: "odr: text: unknown name, line 1\n",
+        ..BAD_TEXT
+    },
+    Row {
+        held: &[("text.s", b"ecall; .data; .zero 65536; .byte 0", &[])],
+        err: "odr: text: too large\n",
+        ..BAD_TEXT
+    },
+    Row {
+        words: &["asm", "gone", "elf"],
+        status: 14,
+        err: "odr: no file: gone\n",
+        ..BAD_TEXT
+    },
+    Row {
+        failing: [&[0], &[], &[]],
+        ..DEVICE
+    },
+    Row {
+        failing: [&[1], &[], &[]],
+        ..DEVICE
+    },
+    Row {
+        failing: [&[], &[0], &[]],
+        saved: ("elf", Some(&HELLO_FILE)),
+        ..DEVICE
+    },
+    Row {
+        held: &[("text.s", b"", &[])],
+        failing: [&[], &[], &[0]],
+        err: "",
+        ..DEVICE
+    },
+];
+
+#[test]
+fn texts_are_assembled(rt: HostRuntime) -> Result<(), Fail> {
+    meets_all(&rt, rt.alloc(), &ROWS)
+}
+
+/// A text of more bytes than the limit, which would else be read as empty lines.
+#[test]
+fn text_above_the_limit(rt: HostRuntime) -> Result<(), Fail> {
+    let alloc = rt.alloc();
+    for (size, err) in [
+        (1_048_576, "odr: text: line 1048577\n"),
+        (1_048_577, "odr: text: too large\n"),
+    ] {
+        let text = vec![in alloc; b'\n'; size]?;
+        let row = Row {
+            held: &[("text", text.as_slice(), &[])],
+            words: &["asm", "text", "elf"],
+            err,
+            ..BAD_TEXT
+        };
+        meets(&rt, alloc, size, &row)?;
+    }
+    Ok(())
+}
+
+static PROGRAMS: [Program; 18] = [
+    HELLO,
+    LOST_UPDATE,
+    LOCKED,
+    STORE_BUFFERING,
+    BYTES_MERGE,
+    MISALIGNED_STORE,
+    STORE_CONDITIONAL_PAIRS,
+    DIVIDE,
+    COMPUTED_ADDRESS,
+    RACING_FAULT,
+    DEADLOCK,
+    TAPE,
+    SEEDED_CUT,
+    UNKNOWN_CALL,
+    EIGHT_THREADS,
+    KEPT_LOCK,
+    NO_CODE,
+    BREAKPOINT,
+];
+
+/// The file of a program: the file header of hello with the number of segments, their headers, and their bytes.
+fn file_of(alloc: Global, program: &Program) -> Result<Vec<u8>, AllocError> {
+    let text_len = (program.words.len() as u32).wrapping_mul(4);
+    let data_len = program.data.len() as u32;
+    let segments = if data_len == 0 { 1 } else { 2 };
+    let offset: u32 = if data_len == 0 { 84 } else { 116 };
+    let mut file = HELLO_FILE[..44].to_vec(alloc)?;
+    file.extend_from_slice(&[segments, 0, 0, 0, 0, 0, 0, 0])?;
+    for field in [1, offset, 0x1_0000, 0x1_0000, text_len, text_len, 5, 4] {
+        file.extend_from_slice(&u32::to_le_bytes(field))?;
+    }
+    if data_len != 0 {
+        let start = offset.wrapping_add(text_len);
+        for field in [1, start, 0x10_0000, 0x10_0000, data_len, data_len, 6, 4] {
+            file.extend_from_slice(&u32::to_le_bytes(field))?;
+        }
+    }
+    for word in program.words {
+        file.extend_from_slice(&word.to_le_bytes())?;
+    }
+    file.extend_from_slice(program.data)?;
+    Ok(file)
+}
+
+/// Assembles a text to these bytes.
+fn gives(
+    rt: &impl Abort,
+    alloc: Global,
+    number: usize,
+    text: &[u8],
+    file: &[u8],
+) -> Result<(), Fail> {
+    let line = format!(in alloc; "{} bytes\n", file.len())?;
+    let row = Row {
+        held: &[("text.s", text, &[])],
+        out: line.as_bytes(),
+        saved: ("elf", Some(file)),
+        ..ASSEMBLED
+    };
+    meets(rt, alloc, number, &row)
+}
+
+#[test]
+fn programs_have_their_files(rt: HostRuntime) -> Result<(), Fail> {
+    let alloc = rt.alloc();
+    for (number, program) in PROGRAMS.iter().enumerate() {
+        let file = file_of(alloc, program)?;
+        gives(&rt, alloc, number, program.text, file.as_slice())?;
+    }
+    Ok(())
+}
+
+/// Texts with the line that they print.
+static SIZES: [(&[u8], &[u8], &[u8]); 6] = [
+    (DIVIDE_LEAST, b"", b"220 bytes\n"),
+    (TWELVE_CELLS, b"", b"344 bytes\n"),
+    (ACCESS_LIMIT, b"", b"152 bytes\n"),
+    (DEMO_FRONT, b"0", b"377 bytes\n"),
+    (DEMO_FRONT, b"5", b"377 bytes\n"),
+    (DEMO_FRONT, b"40", b"377 bytes\n"),
+];
+
+#[test]
+fn programs_have_their_sizes(rt: HostRuntime) -> Result<(), Fail> {
+    let alloc = rt.alloc();
+    for (number, (text, rounds, line)) in SIZES.iter().enumerate() {
+        let mut whole = text.to_vec(alloc)?;
+        if !rounds.is_empty() {
+            whole.extend_from_slice(rounds)?;
+            whole.extend_from_slice(DEMO_REST)?;
+        }
+        let row = Row {
+            held: &[("text.s", whole.as_slice(), &[])],
+            out: line,
+            saved: ("none", None),
+            ..ASSEMBLED
+        };
+        meets(&rt, alloc, number, &row)?;
+    }
+    Ok(())
+}
