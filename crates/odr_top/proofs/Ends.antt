@@ -1,5 +1,5 @@
 -- What a call leaves, by what the work before its report left.
-use Rattle.std.specs.Prelude.{◌≡◌, ◌≢◌, ◌⊎◌, ℕ, Bool, true, false, nat_eq, length, List, Option, Some, None, IfSome, if◌then◌else◌, refl}
+use Rattle.std.specs.Prelude.{◌≡◌, ◌≢◌, ◌⊎◌, ℕ, Bool, true, false, nat_eq, length, List, [], Option, Some, None, IfSome, if◌then◌else◌, refl}
 use Rattle.std.proofs.Common.{sym, ◌∙◌, ap, subst, inl, inr}
 use Rattle.std.specs.Io.KnownBytes.{append_known}
 use Rattle.odr_io.specs.Outside.{Held, held_at}
@@ -11,17 +11,19 @@ use Rattle.odr_words.specs.declared.job.Job.TheVariants as job
 use Rattle.rv32_asm.specs.declared.fault.AsmFault.{AsmFault}
 use Rattle.rv32_asm.specs.declared.fault.AsmFault.TheVariants as asm
 use Rattle.rv32_asm.specs.File.{AsmFile}
+use Rattle.elf_image.specs.Checks.{IsImage}
+use Rattle.recorder.specs.Seeded.{seeded, log_of_run}
 use Rattle.rv_model.specs.Law.{NoDifferenceIsLog}
 use Rattle.rv_model.specs.Run.{HasLog, first_diff}
 use Rattle.odr_top.specs.declared.refusal.Refusal.{Refusal}
 use Rattle.odr_top.specs.declared.refusal.Refusal.TheVariants as refusal
 use Rattle.odr_top.specs.Verdict.{Verdict, BadWords, NotBuilt, NoFile, BadElf, BadLog, LogTooLarge, BadLine, UnknownName, TextTooLarge, InputTooLarge, Differs, Inferred, Assembled, Recorded, Replayed, status_of, out_text, saved_text, memory_line}
-use Rattle.odr_top.specs.Inputs.{IsProgram, NoProgram, IsRecording, NoRecording, IsScheduleFile, NoScheduleFile, IsSource, NoSource, fault_verdict, RefusesBytes}
+use Rattle.odr_top.specs.Inputs.{IsProgram, NoProgram, IsRecording, NoRecording, IsScheduleFile, NoScheduleFile, NoInput, IsSource, NoSource, fault_verdict, RefusesBytes, FromInput}
 use Rattle.odr_top.specs.Owes.{by_difference, by_replay, only_schedule, inference, Owes, OwesWords, Answers, AnswersWords}
 use Rattle.odr_top.specs.Refused.{verdict_of, line_of, exit_of, IsOwed}
 use Rattle.odr_top.specs.Report.{Reported, PartOfLine}
-use Rattle.odr_top.specs.Loaded.{GivesTold}
-use Rattle.odr_top.specs.Answer.{Concluded, LeavesText, IsExplained, FoundRun, InferredRun, IsAssembled, MadeProgram, Assembled as AssembledProgram, IsReplayed, WroteOutput, Replayed as ReplayedRun, PartOfOut, IsErrLine, CutShort}
+use Rattle.odr_top.specs.Loaded.{GivesTold, TapeTold}
+use Rattle.odr_top.specs.Answer.{Concluded, LeavesText, IsExplained, FoundRun, InferredRun, IsAssembled, MadeProgram, Assembled as AssembledProgram, IsRecorded, SavedLog, Recorded as RecordedRun, IsReplayed, WroteOutput, Replayed as ReplayedRun, PartOfOut, IsErrLine, CutShort}
 
 -- ---- reports
 
@@ -179,6 +181,94 @@ assembled before after (Some (job.Check elf log cert)) ob oa eb ea end = tt
 assembled before after (Some (job.Replay elf log sched)) ob oa eb ea end = tt
 assembled before after (Some (job.Debug elf log sched)) ob oa eb ea end = tt
 assembled before after (Some (job.Demo number)) ob oa eb ea end = tt
+
+-- ---- a recording
+
+owed_tape : (held : Held) (input : Option (List ℕ)) (tape : List ℕ) (image : Layout) (seed limit : ℕ) (v : Verdict) → TapeTold (Some held) input tape
+    → v ≡ Recorded (log_of_run image tape (seeded image tape seed limit)) → FromInput held input (λ t u. u ≡ Recorded (log_of_run image t (seeded image t seed limit))) v
+owed_tape held None tape image seed limit v empty is = subst (λ (t : List ℕ). v ≡ Recorded (log_of_run image t (seeded image t seed limit))) empty is
+owed_tape held (Some name) tape image seed limit v gives is = inr (tape, gives, is)
+
+pub owed_record : (told later : Option Held) (elf log : List ℕ) (input : Option (List ℕ)) (seed limit : ℕ) (image : Layout) (tape : List ℕ) (v : Verdict)
+    → GivesTold IsProgram told elf image → later ≡ told → TapeTold later input tape → v ≡ Recorded (log_of_run image tape (seeded image tape seed limit))
+    → IfSome told (λ held. Owes held (job.Record elf log seed limit input) v)
+owed_record None later elf log input seed limit image tape v program same found is = tt
+owed_record (Some held) later elf log input seed limit image tape v program same found is =
+    inr (image, program, owed_tape held input tape image seed limit v (subst (λ (o : Option Held). TapeTold o input tape) same found) is)
+
+not_recorded_program : (name : List ℕ) (o : Option (List ℕ)) (made : Log) → RefusesBytes NoProgram name o (Recorded made) → ⊥
+not_recorded_program name None made e = cc
+not_recorded_program name (Some file) made (inl large) = (let e = large.1 in cc)
+not_recorded_program name (Some file) made (inr fails) = (let e = fails.3 in cc)
+
+not_recorded_input : (name : List ℕ) (o : Option (List ℕ)) (made : Log) → RefusesBytes NoInput name o (Recorded made) → ⊥
+not_recorded_input name None made e = cc
+not_recorded_input name (Some file) made large = (let e = large.1 in cc)
+
+recorded_by : (made l : Log) → Recorded made ≡ Recorded l → made ≡ l
+recorded_by made l e = cc
+
+recorded_tape : (held : Held) (elf program : List ℕ) (image : Layout) (input : Option (List ℕ)) (seed limit : ℕ) (made : Log) → held_at held elf ≡ Some program → IsImage program image
+    → FromInput held input (λ t u. u ≡ Recorded (log_of_run image t (seeded image t seed limit))) (Recorded made) → IsRecorded held elf input seed limit made
+recorded_tape held elf program image None seed limit made found is e = record {
+  program = program;
+  program_held = found;
+  image = image;
+  is_image = is;
+  tape = [];
+  input_is = refl;
+  log_is = recorded_by made (log_of_run image [] (seeded image [] seed limit)) e;
+}
+recorded_tape held elf program image (Some name) seed limit made found is (inl refused) = absurd (not_recorded_input name (held_at held name) made refused)
+recorded_tape held elf program image (Some name) seed limit made found is (inr (tape, gives, e)) = record {
+  program = program;
+  program_held = found;
+  image = image;
+  is_image = is;
+  tape = tape;
+  input_is = gives.found ∙ ap Some (sym gives.is.same);
+  log_is = recorded_by made (log_of_run image tape (seeded image tape seed limit)) e;
+}
+
+recorded_in : (held : Held) (elf log : List ℕ) (input : Option (List ℕ)) (seed limit : ℕ) (made : Log) → Owes held (job.Record elf log seed limit input) (Recorded made) → IsRecorded held elf input seed limit made
+recorded_in held elf log input seed limit made (inl refused) = absurd (not_recorded_program elf (held_at held elf) made refused)
+recorded_in held elf log input seed limit made (inr (image, gives, tape)) = recorded_tape held elf gives.file image input seed limit made gives.found gives.is.is_image tape
+
+recorded_told : (told : Option Held) (elf log : List ℕ) (input : Option (List ℕ)) (seed limit : ℕ) (made : Log)
+    → IfSome told (λ held. Owes held (job.Record elf log seed limit input) (Recorded made)) → IfSome told (λ held. IsRecorded held elf input seed limit made)
+recorded_told None elf log input seed limit made owed = tt
+recorded_told (Some held) elf log input seed limit made owed = recorded_in held elf log input seed limit made owed
+
+saved_by : (before after : Option Held) (elf log : List ℕ) (input : Option (List ℕ)) (seed limit : ℕ) (ob oa : Option (List ℕ)) (v : Verdict) → 0 ≡ status_of v
+    → Answers (job.Record elf log seed limit input) v → IfSome before (λ held. Owes held (job.Record elf log seed limit input) v)
+    → LeavesText before after (Some log) (saved_text v) → oa ≡ append_known ob (out_text v) → SavedLog before after elf log seed limit input ob oa
+saved_by before after elf log input seed limit ob oa (Recorded made) e answers owed leaves printed =
+    record { log = made; recorded = recorded_told before elf log input seed limit made owed; saved = leaves; printed = printed }
+saved_by before after elf log input seed limit ob oa BadWords e answers owed leaves printed = absurd answers
+saved_by before after elf log input seed limit ob oa NotBuilt e answers owed leaves printed = absurd (let f : 0 ≡ 12 = e in cc)
+saved_by before after elf log input seed limit ob oa (NoFile name) e answers owed leaves printed = absurd (let f : 0 ≡ 14 = e in cc)
+saved_by before after elf log input seed limit ob oa (BadElf failed) e answers owed leaves printed = absurd (let f : 0 ≡ 3 = e in cc)
+saved_by before after elf log input seed limit ob oa (BadLog offset) e answers owed leaves printed = absurd (let f : 0 ≡ 4 = e in cc)
+saved_by before after elf log input seed limit ob oa LogTooLarge e answers owed leaves printed = absurd (let f : 0 ≡ 4 = e in cc)
+saved_by before after elf log input seed limit ob oa (BadLine line) e answers owed leaves printed = absurd (let f : 0 ≡ 5 = e in cc)
+saved_by before after elf log input seed limit ob oa (UnknownName line) e answers owed leaves printed = absurd (let f : 0 ≡ 5 = e in cc)
+saved_by before after elf log input seed limit ob oa TextTooLarge e answers owed leaves printed = absurd (let f : 0 ≡ 5 = e in cc)
+saved_by before after elf log input seed limit ob oa InputTooLarge e answers owed leaves printed = absurd (let f : 0 ≡ 5 = e in cc)
+saved_by before after elf log input seed limit ob oa (Differs place) e answers owed leaves printed = absurd (let f : 0 ≡ 9 = e in cc)
+saved_by before after elf log input seed limit ob oa (Inferred schedule) e answers owed leaves printed = absurd answers
+saved_by before after elf log input seed limit ob oa (Assembled file) e answers owed leaves printed = absurd answers
+saved_by before after elf log input seed limit ob oa (Replayed output) e answers owed leaves printed = absurd answers
+
+pub recorded : (before after : Option Held) (words : Option Job) (ob oa eb ea : Option (List ℕ)) → Concluded before after words 0 ob oa eb ea → RecordedRun before after words ob oa
+recorded before after None ob oa eb ea end = tt
+recorded before after (Some (job.Record elf log seed limit input)) ob oa eb ea end =
+    saved_by before after elf log input seed limit ob oa end.verdict end.status_is end.answers end.owed end.leaves end.out_is
+recorded before after (Some (job.Infer elf log out steps)) ob oa eb ea end = tt
+recorded before after (Some (job.Asm text elf)) ob oa eb ea end = tt
+recorded before after (Some (job.Replay elf log sched)) ob oa eb ea end = tt
+recorded before after (Some (job.Check elf log cert)) ob oa eb ea end = tt
+recorded before after (Some (job.Debug elf log sched)) ob oa eb ea end = tt
+recorded before after (Some (job.Demo number)) ob oa eb ea end = tt
 
 -- ---- a replay
 

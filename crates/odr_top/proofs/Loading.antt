@@ -3,15 +3,17 @@ use Rattle.std.specs.Prelude.{◌≡◌, ◌<◌, ℕ, List, length, Option, Som
 use Rattle.std.specs.Borrow.{Bor}
 use Rattle.std.proofs.Common.{sym, subst, inl, inr}
 use Rattle.odr_io.specs.Outside.{Held, held_at, HoldsNothing, HoldsMore}
+use Rattle.elf_image.specs.Layout.{Layout}
 use Rattle.odr_words.specs.declared.job.Job.{Job}
+use Rattle.odr_words.specs.declared.job.Job.TheVariants as job
 use Rattle.odr_top.specs.declared.refusal.Refusal.{Refusal}
 use Rattle.odr_top.specs.declared.refusal.Refusal.TheVariants as refusal
 use Rattle.odr_top.specs.Verdict.{Verdict, BadWords, NotBuilt, NoFile, BadElf, BadLog, LogTooLarge, BadLine, UnknownName, TextTooLarge, InputTooLarge, Differs, Inferred, Assembled, Recorded, Replayed}
-use Rattle.odr_top.specs.Inputs.{Gives, RefusesBytes, Refuses}
+use Rattle.odr_top.specs.Inputs.{IsProgram, Gives, RefusesBytes, Refuses, NoInput}
 use Rattle.odr_top.specs.Owes.{Owes, loads, IsOneOf, Answers}
 use Rattle.odr_top.specs.Refused.{verdict_of, IsOwed, Justified}
 use Rattle.odr_top.specs.Report.{IsOutside}
-use Rattle.odr_top.specs.Loaded.{Found, Turned, OfInput, GivesTold, IsRefusal, RefusesTold, IsNot, RefusesContent}
+use Rattle.odr_top.specs.Loaded.{Found, Turned, OfInput, GivesTold, IsRefusal, RefusesTold, IsNot, RefusesContent, RefusesTape}
 
 -- ---- one file
 
@@ -128,3 +130,21 @@ pub loaded_refused : {T : Type 0} (Not : List ℕ → Verdict → Type 0) (told 
     → Found told name limit bytes → IfErr r (RefusesContent Not bytes) → IfErr r (RefusesTold Not told name)
 loaded_refused {T} Not told name limit bytes (Ok x) found refused = tt
 loaded_refused {T} Not told name limit bytes (Err given) found refused = refuses_found Not told name limit bytes given found refused
+
+-- ---- the input of a recording
+
+no_verdict : (P : Verdict → Type 0) (o : Option Verdict) → IfSome o (λ v. ⊥) → IfSome o P
+no_verdict P None none = tt
+no_verdict P (Some v) none = absurd none
+
+owes_input : (told : Option Held) (elf log name : List ℕ) (seed limit : ℕ) (image : Layout) → GivesTold IsProgram told elf image
+    → IfSome told (λ held. (v : Verdict) → Refuses NoInput held name v → Owes held (job.Record elf log seed limit (Some name)) v)
+owes_input None elf log name seed limit image program = tt
+owes_input (Some held) elf log name seed limit image program = λ (v : Verdict) (refused : Refuses NoInput held name v). inr (image, program, inl refused)
+
+pub tape_refused : (told later : Option Held) (elf log : List ℕ) (input : Option (List ℕ)) (seed limit : ℕ) (image : Layout) (given : Refusal)
+    → GivesTold IsProgram told elf image → later ≡ told → RefusesTape later input given → Justified told (job.Record elf log seed limit input) given
+tape_refused told later elf log None seed limit image given program same refused = no_verdict (IsOwed told (job.Record elf log seed limit None)) (verdict_of given) refused
+tape_refused told later elf log (Some name) seed limit image given program same refused =
+    justified NoInput told name (job.Record elf log seed limit (Some name)) given (inr (inl refl)) (owes_input told elf log name seed limit image program)
+    (subst (λ (o : Option Held). RefusesTold NoInput o name given) same refused)

@@ -13,11 +13,12 @@ use Rattle.odr_words.specs.declared.job.Job.TheVariants as job
 use Rattle.rv32_asm.specs.declared.fault.AsmFault.{AsmFault}
 use Rattle.rv32_asm.specs.declared.fault.AsmFault.TheVariants as asm
 use Rattle.rv32_asm.specs.Assembly.{Program, Stops}
+use Rattle.recorder.specs.Seeded.{seeded, log_of_run}
 use Rattle.rv_model.specs.Run.{first_diff}
 use Rattle.sched_text.specs.Text.{IsTextOf}
 use Rattle.sched_text.specs.FirstBad.{IsFirstBad}
-use Rattle.odr_top.specs.Verdict.{Verdict, BadWords, TextTooLarge, BadLine, UnknownName, status_of}
-use Rattle.odr_top.specs.Inputs.{IsProgram, NoProgram, IsRecording, NoRecording, IsScheduleFile, NoScheduleFile, IsSource, NoSource, fault_verdict, Gives, RefusesBytes, Refuses, FromFile}
+use Rattle.odr_top.specs.Verdict.{Verdict, Recorded, BadWords, TextTooLarge, BadLine, UnknownName, status_of}
+use Rattle.odr_top.specs.Inputs.{IsProgram, NoProgram, IsRecording, NoRecording, IsScheduleFile, NoScheduleFile, IsInput, NoInput, IsSource, NoSource, fault_verdict, Gives, RefusesBytes, Refuses, FromFile, FromInput}
 use Rattle.odr_top.specs.Owes.{inference, by_replay, Owes, OwesWords}
 use Rattle.odr_top.specs.Answer.{Concluded}
 use Rattle.odr_top.specs.Report.{IsCut}
@@ -119,6 +120,17 @@ one_recording spelling no_log = record {
   one_status = λ (file : List ℕ) (v w : Verdict) (a : NoRecording file v) (b : NoRecording file w). recording_status file v a ∙ sym (recording_status file w b);
 }
 
+-- ---- inputs
+
+input_apart : (file tape : List ℕ) (v : Verdict) → IsInput file tape → NoInput file v → ⊥
+input_apart file tape v is large = (let a = large.0 in let b = is.within in omega arith)
+
+one_input : OneReading IsInput NoInput
+one_input = record {
+  apart = input_apart;
+  one_status = λ (file : List ℕ) (v w : Verdict) (a : NoInput file v) (b : NoInput file w). ap status_of a.1 ∙ sym (ap status_of b.1);
+}
+
 -- ---- schedules
 
 schedule_apart : NoBadLine → (text schedule : List ℕ) (v : Verdict) → IsScheduleFile text schedule → NoScheduleFile text v → ⊥
@@ -197,6 +209,16 @@ one_replay laws held log sched a b v w same p q =
     (subst (λ (l : Log). FromFile IsScheduleFile NoScheduleFile held sched (λ s t. t ≡ by_replay l (first_diff a l s)) w) (one_log laws.spelling file x y is also) n))
     p (subst (λ (i : Layout). AfterImage held log sched i w) same q)
 
+-- ---- recordings
+
+one_tape : (held : Held) (input : Option (List ℕ)) (image : Layout) (seed limit : ℕ) (v w : Verdict)
+    → FromInput held input (λ t u. u ≡ Recorded (log_of_run image t (seeded image t seed limit))) v
+    → FromInput held input (λ t u. u ≡ Recorded (log_of_run image t (seeded image t seed limit))) w → status_of v ≡ status_of w
+one_tape held None image seed limit v w p q = ap status_of p ∙ sym (ap status_of q)
+one_tape held (Some name) image seed limit v w p q =
+    from_file IsInput NoInput held name (λ (t : List ℕ) (u : Verdict). u ≡ Recorded (log_of_run image t (seeded image t seed limit))) v w one_input
+    (λ (file x y : List ℕ) (is : IsInput file x) (also : IsInput file y) m n. ap status_of m ∙ sym (ap status_of n)) p q
+
 one_job : Laws → (held : Held) (j : Job) (v w : Verdict) → Owes held j v → Owes held j w → status_of v ≡ status_of w
 one_job laws held (job.Infer elf log out steps) v w a b =
     from_file IsProgram NoProgram held elf (λ (image : Layout) (u : Verdict). FromFile IsRecording NoRecording held log (λ l t. t ≡ inference image l) u) v w one_program
@@ -205,7 +227,11 @@ one_job laws held (job.Infer elf log out steps) v w a b =
 one_job laws held (job.Asm text elf) v w a b =
     from_file IsSource NoSource held text (λ (file : List ℕ) (u : Verdict). u ≡ Verdict.Assembled file) v w one_source
     (λ (t x y : List ℕ) (is : IsSource t x) (also : IsSource t y) p q. ap status_of p ∙ sym (ap status_of q)) a b
-one_job laws held (job.Record elf log seed limit input) v w a b = same_verdict v w _ a b
+one_job laws held (job.Record elf log seed limit input) v w a b =
+    from_file IsProgram NoProgram held elf (λ (image : Layout) (u : Verdict). FromInput held input (λ t q. q ≡ Recorded (log_of_run image t (seeded image t seed limit))) u) v w one_program
+    (λ (file : List ℕ) (x y : Layout) (is : IsProgram file x) (also : IsProgram file y) p q.
+    one_tape held input x seed limit v w p
+    (subst (λ (i : Layout). FromInput held input (λ t u. u ≡ Recorded (log_of_run i t (seeded i t seed limit))) w) (one_image file x y is also) q)) a b
 one_job laws held (job.Check elf log cert) v w a b = same_verdict v w _ a b
 one_job laws held (job.Replay elf log sched) v w a b =
     from_file IsProgram NoProgram held elf (λ (image : Layout) (u : Verdict). AfterImage held log sched image u) v w one_program

@@ -1,19 +1,20 @@
 -- What a call of the program promises, from the words, the outside before it and the outside after it.
-use Rattle.std.specs.Prelude.{◌≡◌, ◌⊎◌, ℕ, List, length, Option, Some, None, IfSome}
+use Rattle.std.specs.Prelude.{◌≡◌, ◌⊎◌, ℕ, List, [], length, Option, Some, None, IfSome}
 use Rattle.std.specs.Io.KnownBytes.{append_known}
 use Rattle.odr_io.specs.Outside.{Held, held_at, Holds, KeepsOthers}
 use Rattle.odr_io.specs.Written.{AppendsPrefix}
 use Rattle.elf_image.specs.Layout.{Layout}
 use Rattle.elf_image.specs.Checks.{IsImage}
 use Rattle.odr_log.specs.declared.log.Log.{Log}
-use Rattle.odr_log.specs.Grammar.{IsLog}
+use Rattle.odr_log.specs.Grammar.{IsLog, log_bytes}
 use Rattle.odr_words.specs.declared.job.Job.{Job}
 use Rattle.odr_words.specs.declared.job.Job.TheVariants as job
 use Rattle.odr_log.specs.Tape.{output_of}
 use Rattle.rv32_asm.specs.File.{AsmFile}
+use Rattle.recorder.specs.Seeded.{seeded, log_of_run}
 use Rattle.rv_model.specs.Run.{HasLog}
 use Rattle.sched_text.specs.Text.{schedule_text, IsTextOf}
-use Rattle.odr_top.specs.Verdict.{Verdict, status_of, run_line, size_line, out_text, err_text, saved_text, memory_line, device_line}
+use Rattle.odr_top.specs.Verdict.{Verdict, status_of, run_line, size_line, record_line, out_text, err_text, saved_text, memory_line, device_line}
 use Rattle.odr_top.specs.Owes.{OwesWords, saves, AnswersWords}
 use Rattle.odr_top.specs.Done.{Finishes}
 
@@ -112,6 +113,32 @@ pub record WroteOutput (before : Option Held) (elf log sched : List ℕ) (out_be
 abbrev pub Replayed : Option Held → Option Job → Option (List ℕ) → Option (List ℕ) → Type 0
 Replayed before (Some (job.Replay elf log sched)) out_before out_after = WroteOutput before elf log sched out_before out_after
 Replayed before other out_before out_after = Unit {0}
+
+-- where there is a name, the input is held under it; else it is empty
+abbrev pub InputIs : Held → Option (List ℕ) → List ℕ → Type 0
+InputIs held None tape = tape ≡ []
+InputIs held (Some name) tape = held_at held name ≡ Some tape
+
+-- the store held an image and an input, and this is the log of the seeded run
+pub record IsRecorded (held : Held) (elf : List ℕ) (input : Option (List ℕ)) (seed limit : ℕ) (log : Log) : Type 0 where
+  pub program : List ℕ
+  pub program_held : held_at held elf ≡ Some program
+  pub image : Layout
+  pub is_image : IsImage program image
+  pub tape : List ℕ
+  pub input_is : InputIs held input tape
+  pub log_is : log ≡ log_of_run image tape (seeded image tape seed limit)
+
+-- A run was recorded: the file holds the log's bytes, and its line was printed.
+pub record SavedLog (before after : Option Held) (elf name : List ℕ) (seed limit : ℕ) (input : Option (List ℕ)) (out_before out_after : Option (List ℕ)) : Type 0 where
+  pub log : Log
+  pub recorded : IfSome before (λ held. IsRecorded held elf input seed limit log)
+  pub saved : Holds after name (log_bytes log)
+  pub printed : out_after ≡ append_known out_before (record_line log)
+
+abbrev pub Recorded : Option Held → Option Held → Option Job → Option (List ℕ) → Option (List ℕ) → Type 0
+Recorded before after (Some (job.Record elf log seed limit input)) out_before out_after = SavedLog before after elf log seed limit input out_before out_after
+Recorded before after other out_before out_after = Unit {0}
 
 -- ---- a call that was cut short
 

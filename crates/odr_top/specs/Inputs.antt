@@ -1,5 +1,5 @@
 -- What the files that a command loads give, and why they are refused.
-use Rattle.std.specs.Prelude.{◌≡◌, ◌⊎◌, ℕ, ◌<◌, ◌≤◌, List, length, Option, Some, None}
+use Rattle.std.specs.Prelude.{◌≡◌, ◌⊎◌, ℕ, ◌<◌, ◌≤◌, List, [], length, Option, Some, None}
 use Rattle.odr_io.specs.Outside.{Held, held_at}
 use Rattle.elf_image.specs.declared.fault.Check.{Check}
 use Rattle.elf_image.specs.declared.fault.Check.TheVariants as check
@@ -13,7 +13,7 @@ use Rattle.rv32_asm.specs.declared.fault.AsmFault.TheVariants as asm
 use Rattle.rv32_asm.specs.File.{AsmFile, IsRefused}
 use Rattle.sched_text.specs.Text.{IsTextOf}
 use Rattle.sched_text.specs.FirstBad.{IsFirstBad}
-use Rattle.odr_top.specs.Verdict.{Verdict, NoFile, BadElf, BadLog, LogTooLarge, BadLine, UnknownName, TextTooLarge}
+use Rattle.odr_top.specs.Verdict.{Verdict, NoFile, BadElf, BadLog, LogTooLarge, BadLine, UnknownName, TextTooLarge, InputTooLarge}
 
 -- ---- a program
 
@@ -46,6 +46,15 @@ pub record IsScheduleFile (text schedule : List ℕ) : Type 0 where
 abbrev pub NoScheduleFile : List ℕ → Verdict → Type 0
 NoScheduleFile text verdict =
     ((67108864 < length text) × (verdict ≡ TextTooLarge)) ⊎ ((line : ℕ) × (length text ≤ 67108864) × IsFirstBad text line × (verdict ≡ BadLine line))
+
+-- ---- an input, byte by byte
+
+pub record IsInput (file tape : List ℕ) : Type 0 where
+  pub within : length file ≤ 1048576
+  pub same : tape ≡ file
+
+abbrev pub NoInput : List ℕ → Verdict → Type 0
+NoInput file verdict = (1048576 < length file) × (verdict ≡ InputTooLarge)
 
 -- ---- an assembly text
 
@@ -84,3 +93,8 @@ Refuses Not held name verdict = RefusesBytes Not name (held_at held name) verdic
 -- a file that is refused with its verdict, or gives what the rest of the work goes by
 abbrev pub FromFile : {X : Type 0} → (List ℕ → X → Type 0) → (List ℕ → Verdict → Type 0) → Held → List ℕ → (X → Verdict → Type 0) → Verdict → Type 0
 FromFile {X} Is Not held name Next verdict = Refuses Not held name verdict ⊎ ((x : X) × Gives Is held name x × Next x verdict)
+
+-- without a file the input is empty
+abbrev pub FromInput : Held → Option (List ℕ) → (List ℕ → Verdict → Type 0) → Verdict → Type 0
+FromInput held None Next verdict = Next [] verdict
+FromInput held (Some name) Next verdict = FromFile IsInput NoInput held name Next verdict

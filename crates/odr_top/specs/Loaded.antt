@@ -1,11 +1,11 @@
 -- What a load gives, or how it is refused.
-use Rattle.std.specs.Prelude.{◌≡◌, ◌⊎◌, ℕ, ◌≤◌, List, length, Option, IfSome}
+use Rattle.std.specs.Prelude.{◌≡◌, ◌⊎◌, ℕ, ◌≤◌, List, [], length, Option, None, Some, IfSome}
 use Rattle.std.specs.Borrow.{Bor}
 use Rattle.odr_io.specs.Outside.{Held, Holds, HoldsNothing, HoldsMore}
 use Rattle.odr_top.specs.declared.refusal.Refusal.{Refusal}
 use Rattle.odr_top.specs.declared.refusal.Refusal.TheVariants as refusal
 use Rattle.odr_top.specs.Verdict.{Verdict, BadWords, NotBuilt, NoFile, BadElf, BadLog, LogTooLarge, BadLine, UnknownName, TextTooLarge, InputTooLarge, Differs, Inferred, Assembled, Recorded, Replayed}
-use Rattle.odr_top.specs.Inputs.{Gives, Refuses}
+use Rattle.odr_top.specs.Inputs.{IsInput, NoInput, Gives, Refuses}
 use Rattle.odr_top.specs.Refused.{verdict_of}
 use Rattle.odr_top.specs.Report.{IsOutside}
 
@@ -57,3 +57,12 @@ pub record IsNot (Not : List ℕ → Verdict → Type 0) (bytes name : List ℕ)
 
 abbrev pub RefusesContent : (List ℕ → Verdict → Type 0) → List ℕ → Refusal → Type 0
 RefusesContent Not bytes given = IfSome (verdict_of given) (λ verdict. (name : List ℕ) → IsNot Not bytes name verdict)
+
+-- the input that a job names, if it names one
+abbrev pub TapeTold : Option Held → Option (List ℕ) → List ℕ → Type 0
+TapeTold told None tape = tape ≡ []
+TapeTold told (Some name) tape = GivesTold IsInput told name tape
+
+abbrev pub RefusesTape : Option Held → Option (List ℕ) → Refusal → Type 0
+RefusesTape told None given = IfSome (verdict_of given) (λ verdict. ⊥)
+RefusesTape told (Some name) given = RefusesTold NoInput told name given

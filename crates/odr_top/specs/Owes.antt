@@ -11,9 +11,10 @@ use Rattle.odr_log.specs.Tape.{output_of}
 use Rattle.odr_words.specs.declared.job.Job.{Job}
 use Rattle.odr_words.specs.declared.job.Job.TheVariants as job
 use Rattle.odr_words.specs.Jobs.{job_of}
+use Rattle.recorder.specs.Seeded.{seeded, log_of_run}
 use Rattle.rv_model.specs.Run.{first_diff}
 use Rattle.odr_top.specs.Verdict.{Verdict, BadWords, NotBuilt, NoFile, BadElf, BadLog, LogTooLarge, BadLine, UnknownName, TextTooLarge, InputTooLarge, Differs, Inferred, Assembled, Recorded, Replayed}
-use Rattle.odr_top.specs.Inputs.{IsProgram, NoProgram, IsRecording, NoRecording, IsScheduleFile, NoScheduleFile, IsSource, NoSource, FromFile}
+use Rattle.odr_top.specs.Inputs.{IsProgram, NoProgram, IsRecording, NoRecording, IsScheduleFile, NoScheduleFile, IsSource, NoSource, FromFile, FromInput}
 
 -- the job of the words of a command line
 abbrev pub job_in : List (String Global) → Option Job
@@ -52,7 +53,8 @@ abbrev pub Owes : Held → Job → Verdict → Type 0
 Owes held (job.Infer elf log out steps) verdict =
     FromFile IsProgram NoProgram held elf (λ image v. FromFile IsRecording NoRecording held log (λ l w. w ≡ inference image l) v) verdict
 Owes held (job.Asm text elf) verdict = FromFile IsSource NoSource held text (λ file v. v ≡ Assembled file) verdict
-Owes held (job.Record elf log seed limit input) verdict = verdict ≡ NotBuilt
+Owes held (job.Record elf log seed limit input) verdict =
+    FromFile IsProgram NoProgram held elf (λ image v. FromInput held input (λ tape u. u ≡ Recorded (log_of_run image tape (seeded image tape seed limit))) v) verdict
 Owes held (job.Check elf log cert) verdict = verdict ≡ NotBuilt
 Owes held (job.Replay elf log sched) verdict =
     FromFile IsProgram NoProgram held elf (λ image v. FromFile IsRecording NoRecording held log (λ l u.
@@ -70,7 +72,8 @@ OwesWords held (Some j) verdict = Owes held j verdict
 abbrev pub loads : Job → List (List ℕ)
 loads (job.Infer elf log out steps) = elf ∷ log ∷ []
 loads (job.Asm text elf) = text ∷ []
-loads (job.Record elf log seed limit input) = []
+loads (job.Record elf log seed limit None) = elf ∷ []
+loads (job.Record elf log seed limit (Some input)) = elf ∷ input ∷ []
 loads (job.Check elf log cert) = []
 loads (job.Replay elf log sched) = elf ∷ log ∷ sched ∷ []
 loads (job.Debug elf log sched) = []
@@ -80,7 +83,7 @@ loads (job.Demo number) = []
 abbrev pub saves : Job → Option (List ℕ)
 saves (job.Infer elf log out steps) = Some out
 saves (job.Asm text elf) = Some elf
-saves (job.Record elf log seed limit input) = None
+saves (job.Record elf log seed limit input) = Some log
 saves (job.Check elf log cert) = None
 saves (job.Replay elf log sched) = None
 saves (job.Debug elf log sched) = None

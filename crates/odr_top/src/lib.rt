@@ -11,6 +11,7 @@ mod infer;
 mod line;
 mod load;
 mod prepare;
+mod record;
 pub mod refusal;
 mod replay;
 mod report;

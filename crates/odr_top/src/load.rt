@@ -1,9 +1,9 @@
 ghost use Rattle.std.specs.Prelude.{◌≡◌, ◌≢◌, ◌≤◌, length, IfOk, IfErr, IsErrOf};
 ghost use Rattle.odr_io.specs.Outside.{Rose};
 ghost use Rattle.odr_log.specs.Grammar.{IsValid};
-ghost use Rattle.odr_top.specs.Inputs.{IsProgram, NoProgram, IsRecording, NoRecording, IsScheduleFile, NoScheduleFile, IsSource, NoSource};
+ghost use Rattle.odr_top.specs.Inputs.{IsProgram, NoProgram, IsRecording, NoRecording, IsScheduleFile, NoScheduleFile, IsInput, NoInput, IsSource, NoSource};
 ghost use Rattle.elf_image.specs.Fault.{check_of};
-ghost use Rattle.odr_top.specs.Loaded.{Found, Turned, GivesTold, RefusesTold, RefusesContent};
+ghost use Rattle.odr_top.specs.Loaded.{Found, Turned, GivesTold, RefusesTold, RefusesContent, TapeTold, RefusesTape};
 
 use crate::refusal::Refusal;
 use elf_image::fault::{Check, ElfFault};
@@ -13,6 +13,7 @@ use odr_io::files::Files;
 use odr_list::bytes::Bytes;
 use odr_log::log::Log;
 use odr_log::{LogFault, read_log};
+use odr_words::job::WordText;
 use rv32_asm::{AsmFault, assemble};
 use sched_text::fault::SchedFault;
 use sched_text::read::read_schedule;
@@ -27,6 +28,9 @@ const LOG_LIMIT: u64 = 67_108_864;
 
 /// The most bytes of a schedule's text.
 const SCHEDULE_LIMIT: u64 = 67_108_864;
+
+/// The most bytes of an input.
+const INPUT_LIMIT: u64 = 1_048_576;
 
 /// The most bytes of an assembly text.
 const SOURCE_LIMIT: u64 = 1_048_576;
@@ -188,6 +192,40 @@ pub fn load_schedule<'a, F: Files>(
 {
     let text = load(alloc, files, name, SCHEDULE_LIMIT, Refusal::TextTooLarge)?;
     schedule_in(alloc, text.as_slice())
+}
+
+/// The input in a file.
+fn load_input<'a, F: Files>(
+    alloc: Global,
+    files: &mut F,
+    name: &'a str,
+) -> Result<Vec<u8>, Refusal<'a>>
+    ensures found { IfOk result (λ tape. GivesTold IsInput (F.held files.old) name.now tape.items) }
+    ensures refused { IfErr result (RefusesTold NoInput (F.held files.old) name.now) }
+    ensures kept { F.held files.new ≡ F.held files.old }
+    ensures failed { IsErrOf result Refusal.Device → Rose (F.faults files.old) (F.faults files.new) }
+    ensures steady { result ≢ Err Refusal.Device → F.faults files.new ≡ F.faults files.old }
+{
+    let bytes = load(alloc, files, name, INPUT_LIMIT, Refusal::InputTooLarge)?;
+    Ok(bytes.into_vec())
+}
+
+/// The input in a file, empty where none is named.
+pub fn load_tape<'a, F: Files>(
+    alloc: Global,
+    files: &mut F,
+    input: &'a Option<WordText>,
+) -> Result<Vec<u8>, Refusal<'a>>
+    ensures found { IfOk result (λ tape. TapeTold (F.held files.old) input.now tape.items) }
+    ensures refused { IfErr result (RefusesTape (F.held files.old) input.now) }
+    ensures kept { F.held files.new ≡ F.held files.old }
+    ensures failed { IsErrOf result Refusal.Device → Rose (F.faults files.old) (F.faults files.new) }
+    ensures steady { result ≢ Err Refusal.Device → F.faults files.new ≡ F.faults files.old }
+{
+    match input {
+        None => Ok(Vec::new(alloc)),
+        Some(name) => load_input(alloc, files, name.as_str()),
+    }
 }
 
 /// The program that the text of a file becomes.

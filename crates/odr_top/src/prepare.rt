@@ -1,11 +1,13 @@
 ghost use Rattle.std.specs.Prelude.{◌≡◌, ◌≢◌, IfOk, IfErr, IsErrOf};
 ghost use Rattle.odr_io.specs.Outside.{Rose};
+ghost use Rattle.odr_words.specs.Jobs.{IsWithinLimits};
 ghost use Rattle.odr_top.specs.Refused.{Justified};
 ghost use Rattle.odr_top.specs.Done.{Prepared};
 
 use crate::asm::asm;
 use crate::done::Done;
 use crate::infer::infer;
+use crate::record::{Options, record};
 use crate::refusal::Refusal;
 use crate::replay::replay_log;
 use odr_io::files::Files;
@@ -18,6 +20,7 @@ pub fn prepare<'a, F: Files>(
     files: &mut F,
     job: &'a Job,
 ) -> Result<Done<'a>, Refusal<'a>>
+    requires { IsWithinLimits job.now }
     ensures done { IfOk result (Prepared (F.held files.old) job.now) }
     ensures refused { IfErr result (Justified (F.held files.old) job.now) }
     ensures kept { F.held files.new ≡ F.held files.old }
@@ -42,8 +45,20 @@ pub fn prepare<'a, F: Files>(
         Job::Replay { elf, log, sched } => {
             replay_log(alloc, files, elf.as_str(), log.as_str(), sched.as_str())
         }
-        Job::Record { .. } | Job::Check { .. } | Job::Debug { .. } | Job::Demo { .. } => Err(
-            Refusal::NotBuilt,
-        ),
+        Job::Record {
+            elf,
+            log,
+            seed,
+            limit,
+            input,
+        } => {
+            let options = Options {
+                seed: *seed,
+                limit: *limit,
+                input,
+            };
+            record(alloc, files, elf.as_str(), log.as_str(), options)
+        }
+        Job::Check { .. } | Job::Debug { .. } | Job::Demo { .. } => Err(Refusal::NotBuilt),
     }
 }

@@ -2,10 +2,11 @@ ghost use Rattle.std.specs.Prelude.{◌≡◌, ◌≢◌, ◌⊎◌, None, Some,
 ghost use Rattle.std.specs.Io.KnownBytes.{append_known};
 ghost use Rattle.odr_io.specs.Outside.{Rose};
 ghost use Rattle.odr_top.specs.Verdict.{Verdict, status_of, device_line};
+ghost use Rattle.odr_words.specs.Jobs.{IsWithinLimits};
 ghost use Rattle.odr_top.specs.Owes.{job_in, OwesWords};
 ghost use Rattle.odr_top.specs.Refused.{verdict_of, Justified};
 ghost use Rattle.odr_top.specs.Report.{IsCut};
-ghost use Rattle.odr_top.specs.Answer.{KeepsInputs, Concluded, InferredRun, Assembled, Replayed, MayFinish, HasSavedWhole, PartOfOut, CutShort, Finished};
+ghost use Rattle.odr_top.specs.Answer.{KeepsInputs, Concluded, InferredRun, Assembled, Recorded, Replayed, MayFinish, HasSavedWhole, PartOfOut, CutShort, Finished};
 
 use crate::finish::finish;
 use crate::prepare::prepare;
@@ -29,6 +30,7 @@ fn work<'a, F: Files, O: Sink>(
     files: &mut F,
     out: &mut O,
 ) -> Result<(), Refusal<'a>>
+    requires { IsWithinLimits job.now }
     ensures finished { OnOk result (Finished (F.held files.old) (F.held files.new) (Some job.now) (O.written out.old) (O.written out.new)) }
     ensures refused { IfErr result (Justified (F.held files.old) job.now) }
     ensures untouched { IfErr result (λ refusal. IfSome (verdict_of refusal) (λ _. (F.held files.new ≡ F.held files.old) × (out.new ≡ out.old))) }
@@ -53,6 +55,7 @@ fn answer<F: Files, O: Sink, E: Sink>(
     out: &mut O,
     err: &mut E,
 ) -> u8
+    requires { IsWithinLimits job.now }
     ensures causes { result ≢ 1 → result ≢ 6 → Concluded (F.held files.old) (F.held files.new) (Some job.now) result (O.written out.old) (O.written out.new) (E.written err.old) (E.written err.new) }
     ensures nothing_failed { result ≢ 1 → result ≢ 6 → (F.faults files.new ≡ F.faults files.old) × (O.faults out.new ≡ O.faults out.old) × (E.faults err.new ≡ E.faults err.old) }
     ensures device { result ≡ 6 → Rose (F.faults files.old) (F.faults files.new) ⊎ (Rose (O.faults out.old) (O.faults out.new) ⊎ Rose (E.faults err.old) (E.faults err.new)) }
@@ -100,7 +103,8 @@ fn answer_words<F: Files, O: Sink, E: Sink>(
 /// Runs the program on the words of its command line, without the program's own name, and answers its exit
 /// status.
 ///
-/// `infer ELF LOG OUT [--steps N]` takes a program and a log of one thread. It answers 0, saves the schedule's text
+/// `record ELF LOG [--seed N] [--limit N] [--input FILE]` runs a program by the schedule of a seed, saves its log under
+/// LOG and prints a line on it. `infer ELF LOG OUT [--steps N]` takes a program and a log of one thread. It answers 0, saves the schedule's text
 /// under OUT and prints the run's line where the one schedule has the log, and 9 where it hasn't; a log of more
 /// threads is answered 12. `replay ELF LOG SCHED` runs a schedule over the log's inputs and writes what the guest wrote
 /// where the schedule has the log. `asm TEXT ELF` assembles a text, saves the program under ELF and prints its size.
@@ -121,6 +125,9 @@ pub fn odr_run<F: Files, S: Source, O: Sink, E: Sink>(
 
     // With status 0 of an assembly the file holds the program of the text, and its line was printed.
     ensures assembled { result ≡ 0 → Assembled (F.held files.old) (F.held files.new) (job_in words.now) (O.written out.old) (O.written out.new) }
+
+    // With status 0 of a recording the file holds exactly the log of the seeded run, and its line was printed.
+    ensures recorded { result ≡ 0 → Recorded (F.held files.old) (F.held files.new) (job_in words.now) (O.written out.old) (O.written out.new) }
 
     // With status 0 of a replay exactly the output was written of a log that the schedule has.
     ensures replayed { result ≡ 0 → Replayed (F.held files.old) (job_in words.now) (O.written out.old) (O.written out.new) }

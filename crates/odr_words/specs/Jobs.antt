@@ -1,5 +1,5 @@
 -- Which words are which job.
-use Rattle.std.specs.Prelude.{◌-◌, ◌^◌, ◌&&◌, Bool, List, [], ◌∷◌, map, codes, bytes_eq, Option, Some, None, option_map, option_and_then, if◌then◌else◌}
+use Rattle.std.specs.Prelude.{◌-◌, ◌^◌, ◌≤◌, ◌&&◌, Bool, List, [], ◌∷◌, map, codes, bytes_eq, Option, Some, None, option_map, option_and_then, if◌then◌else◌}
 use Rattle.std.specs.Map.{lookup}
 use Rattle.odr_words.specs.Arguments.{Text, Options, Arguments, word_of, arguments_of, value_of, are_known, are_distinct}
 use Rattle.odr_words.specs.Numbers.{number_in, number_or}
@@ -65,3 +65,13 @@ job_of (first ∷ words) = do
   command ← command_of first
   given ← arguments_of (map word_of words)
   job_given command given
+
+-- the numbers of a job are at most their limits
+abbrev pub IsWithinLimits : Job → Type 0
+IsWithinLimits (job.Record elf log seed limit input) = limit ≤ 250000
+IsWithinLimits (job.Infer elf log out steps) = steps ≤ 1000000000
+IsWithinLimits (job.Demo number) = number ≤ 40
+IsWithinLimits (job.Check elf log cert) = Unit {0}
+IsWithinLimits (job.Replay elf log sched) = Unit {0}
+IsWithinLimits (job.Debug elf log sched) = Unit {0}
+IsWithinLimits (job.Asm text elf) = Unit {0}

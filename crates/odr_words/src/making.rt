@@ -1,5 +1,5 @@
-ghost use Rattle.std.specs.Prelude.{◌≡◌, ◌-◌, ◌^◌, IfOk, option_map, is_some};
-ghost use Rattle.odr_words.specs.Jobs.{job_with};
+ghost use Rattle.std.specs.Prelude.{◌≡◌, ◌≤◌, ◌-◌, ◌^◌, IfOk, IfSome, option_map, is_some};
+ghost use Rattle.odr_words.specs.Jobs.{job_with, IsWithinLimits};
 ghost use Rattle.odr_words.specs.Numbers.{number_in, number_or};
 ghost use Rattle.odr_words.specs.Read.{seen_positionals, seen_values, value_in, Reads};
 
@@ -32,7 +32,8 @@ fn seed(options: &OptionValues<'_>) -> Option<u64>
 
 /// The limit of steps, its default or none where it is no number within its limits.
 fn limit(options: &OptionValues<'_>) -> Option<u32>
-    ensures { result ≡ number_or 100000 1 250000 (seen_values options.now).limit }
+    ensures value { result ≡ number_or 100000 1 250000 (seen_values options.now).limit }
+    ensures within { IfSome result (λ number. number ≤ 250000) }
 {
     match number_or(100_000, 1, 250_000, options.limit) {
         Some(limit) => Some(limit as u32),
@@ -42,14 +43,16 @@ fn limit(options: &OptionValues<'_>) -> Option<u32>
 
 /// The count of derived lines, its default or none where it is no number within its limits.
 fn steps(options: &OptionValues<'_>) -> Option<u64>
-    ensures { result ≡ number_or 20000 1 1000000000 (seen_values options.now).steps }
+    ensures value { result ≡ number_or 20000 1 1000000000 (seen_values options.now).steps }
+    ensures within { IfSome result (λ number. number ≤ 1000000000) }
 {
     number_or(20_000, 1, 1_000_000_000, options.steps)
 }
 
 /// The size of a demo, or none where it is no number within its limits.
 fn size(text: &str) -> Option<u32>
-    ensures { result ≡ number_in 0 40 text.now }
+    ensures value { result ≡ number_in 0 40 text.now }
+    ensures within { IfSome result (λ number. number ≤ 40) }
 {
     match number_in(text, 0, 40) {
         Some(number) => Some(number as u32),
@@ -81,8 +84,9 @@ fn record(
     words: Positionals<'_>,
     options: OptionValues<'_>,
 ) -> Result<Job, WordsFault>
-    ensures { Reads (job_with Command.Record (seen_positionals words.entry)
+    ensures job { Reads (job_with Command.Record (seen_positionals words.entry)
         (value_in (seen_values options.entry))) result }
+    ensures limits { IfOk result IsWithinLimits }
 {
     let Positionals::Two(elf, log) = words else {
         return Err(WordsFault::Bad);
@@ -107,8 +111,9 @@ fn infer(
     words: Positionals<'_>,
     options: OptionValues<'_>,
 ) -> Result<Job, WordsFault>
-    ensures { Reads (job_with Command.Infer (seen_positionals words.entry)
+    ensures job { Reads (job_with Command.Infer (seen_positionals words.entry)
         (value_in (seen_values options.entry))) result }
+    ensures limits { IfOk result IsWithinLimits }
 {
     let Positionals::Three(elf, log, out) = words else {
         return Err(WordsFault::Bad);
@@ -129,8 +134,9 @@ fn check(
     words: Positionals<'_>,
     options: OptionValues<'_>,
 ) -> Result<Job, WordsFault>
-    ensures { Reads (job_with Command.Check (seen_positionals words.entry)
+    ensures job { Reads (job_with Command.Check (seen_positionals words.entry)
         (value_in (seen_values options.entry))) result }
+    ensures limits { IfOk result IsWithinLimits }
 {
     let Positionals::Three(elf, log, cert) = words else {
         return Err(WordsFault::Bad);
@@ -147,8 +153,9 @@ fn replay(
     words: Positionals<'_>,
     options: OptionValues<'_>,
 ) -> Result<Job, WordsFault>
-    ensures { Reads (job_with Command.Replay (seen_positionals words.entry)
+    ensures job { Reads (job_with Command.Replay (seen_positionals words.entry)
         (value_in (seen_values options.entry))) result }
+    ensures limits { IfOk result IsWithinLimits }
 {
     let Positionals::Three(elf, log, sched) = words else {
         return Err(WordsFault::Bad);
@@ -165,8 +172,9 @@ fn debug(
     words: Positionals<'_>,
     options: OptionValues<'_>,
 ) -> Result<Job, WordsFault>
-    ensures { Reads (job_with Command.Debug (seen_positionals words.entry)
+    ensures job { Reads (job_with Command.Debug (seen_positionals words.entry)
         (value_in (seen_values options.entry))) result }
+    ensures limits { IfOk result IsWithinLimits }
 {
     let Positionals::Three(elf, log, sched) = words else {
         return Err(WordsFault::Bad);
@@ -179,8 +187,9 @@ fn debug(
 }
 
 fn asm(alloc: Global, words: Positionals<'_>, options: OptionValues<'_>) -> Result<Job, WordsFault>
-    ensures { Reads (job_with Command.Asm (seen_positionals words.entry)
+    ensures job { Reads (job_with Command.Asm (seen_positionals words.entry)
         (value_in (seen_values options.entry))) result }
+    ensures limits { IfOk result IsWithinLimits }
 {
     let Positionals::Two(text, elf) = words else {
         return Err(WordsFault::Bad);
@@ -192,8 +201,9 @@ fn asm(alloc: Global, words: Positionals<'_>, options: OptionValues<'_>) -> Resu
 }
 
 fn demo(words: Positionals<'_>, options: OptionValues<'_>) -> Result<Job, WordsFault>
-    ensures { Reads (job_with Command.Demo (seen_positionals words.entry)
+    ensures job { Reads (job_with Command.Demo (seen_positionals words.entry)
         (value_in (seen_values options.entry))) result }
+    ensures limits { IfOk result IsWithinLimits }
 {
     let Positionals::One(number) = words else {
         return Err(WordsFault::Bad);
@@ -206,8 +216,9 @@ fn demo(words: Positionals<'_>, options: OptionValues<'_>) -> Result<Job, WordsF
 
 /// The job of a command with what was given after it.
 pub fn job_with(alloc: Global, command: Command, given: &Given<'_>) -> Result<Job, WordsFault>
-    ensures { Reads (job_with command (seen_positionals given.now.positionals)
+    ensures job { Reads (job_with command (seen_positionals given.now.positionals)
         (value_in (seen_values given.now.options))) result }
+    ensures limits { IfOk result IsWithinLimits }
 {
     let words = given.positionals;
     let options = given.options;

@@ -1,5 +1,5 @@
 ghost use Rattle.std.specs.Prelude.{◌≡◌, ◌↔◌, true, is_some, drop, map, string_bytes, Some, None, IfOk, IsErrOf};
-ghost use Rattle.odr_words.specs.Jobs.{job_of};
+ghost use Rattle.odr_words.specs.Jobs.{job_of, IsWithinLimits};
 ghost use Rattle.odr_words.specs.Read.{Reads, job_after};
 
 use crate::command::{Command, command_of};
@@ -13,14 +13,16 @@ use std::alloc::Global;
 /// The job of words of which the first is a command's word.
 fn job_after(alloc: Global, command: Command, words: &[String]) -> Result<Job, WordsFault>
     requires { is_some (job_after command (map string_bytes (drop 1 words.now))) ≡ true }
-    ensures { Reads (job_after command (map string_bytes (drop 1 words.now))) result }
+    ensures job { Reads (job_after command (map string_bytes (drop 1 words.now))) result }
+    ensures limits { IfOk result IsWithinLimits }
 {
     let given = split(alloc, command, words)?;
     job_with(alloc, command, &given)
 }
 
 fn job_of(alloc: Global, words: &[String]) -> Result<Job, WordsFault>
-    ensures { Reads (job_of (map string_bytes words.now)) result }
+    ensures job { Reads (job_of (map string_bytes words.now)) result }
+    ensures limits { IfOk result IsWithinLimits }
 {
     let [first, rest @ ..] = words else {
         return Err(WordsFault::Bad);
@@ -35,6 +37,7 @@ fn job_of(alloc: Global, words: &[String]) -> Result<Job, WordsFault>
 /// they are none, however little memory there is; a job may meet want of memory.
 pub fn read_words(alloc: Global, words: &[String]) -> Result<Job, WordsFault>
     ensures job { IfOk result (λ job. job_of (map string_bytes words.now) ≡ Some job) }
+    ensures limits { IfOk result IsWithinLimits }
     ensures bad { IsErrOf result WordsFault.Bad ↔ (job_of (map string_bytes words.now) ≡ None) }
 {
     job_of(alloc, words)

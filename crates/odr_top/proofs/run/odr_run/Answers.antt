@@ -3,7 +3,7 @@ use Rattle.std.proofs.Common.{◌⊎◌, Bool, true, false, None, inl, inr, eqb,
 use Rattle.odr_top.specs.Owes.{job_in}
 use Rattle.odr_top.specs.Answer.{Concluded}
 use Rattle.odr_top.proofs.OneVerdict.{completes}
-use Rattle.odr_top.proofs.Ends.{inferred, assembled, replayed, two_is_no_job, no_job_is_two}
+use Rattle.odr_top.proofs.Ends.{inferred, assembled, recorded, replayed, two_is_no_job, no_job_is_two}
 use Rattle.odr_top.specs.Report.{IsCut}
 use Rattle.odr_top.proofs.run.odr_run.Goals as goal
 
@@ -25,6 +25,15 @@ pub returns-clause-assembled : goal.returns-clause-assembled
 returns-clause-assembled g c =
     λ (e : c.answer_words.result ≡ 0).
     assembled (g.F.Files.held c.args.files.now) (g.F.Files.held c.answer_words.new.files) (job_in c.args.words.now)
+    (g.O.Sink.written c.args.out.now) (g.O.Sink.written c.answer_words.new.out) (g.E.Sink.written c.args.err.now) (g.E.Sink.written c.answer_words.new.err)
+    (ended c.answer_words.result (λ (status : ℕ). Concluded (g.F.Files.held c.args.files.now) (g.F.Files.held c.answer_words.new.files) (job_in c.args.words.now) status
+    (g.O.Sink.written c.args.out.now) (g.O.Sink.written c.answer_words.new.out) (g.E.Sink.written c.args.err.now) (g.E.Sink.written c.answer_words.new.err))
+    c.answer_words.ensures.causes e)
+
+pub returns-clause-recorded : goal.returns-clause-recorded
+returns-clause-recorded g c =
+    λ (e : c.answer_words.result ≡ 0).
+    recorded (g.F.Files.held c.args.files.now) (g.F.Files.held c.answer_words.new.files) (job_in c.args.words.now)
     (g.O.Sink.written c.args.out.now) (g.O.Sink.written c.answer_words.new.out) (g.E.Sink.written c.args.err.now) (g.E.Sink.written c.answer_words.new.err)
     (ended c.answer_words.result (λ (status : ℕ). Concluded (g.F.Files.held c.args.files.now) (g.F.Files.held c.answer_words.new.files) (job_in c.args.words.now) status
     (g.O.Sink.written c.args.out.now) (g.O.Sink.written c.answer_words.new.out) (g.E.Sink.written c.args.err.now) (g.E.Sink.written c.answer_words.new.err))
