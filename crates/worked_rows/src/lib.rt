@@ -9,6 +9,8 @@ mod inference;
 #[cfg(test)]
 mod recording;
 #[cfg(test)]
+mod replaying;
+#[cfg(test)]
 mod row;
 #[cfg(test)]
 mod words;

@@ -1,145 +1,147 @@
-//! Replay: a program, a log and a schedule go in, the guest's output comes out.
+//! Recording: a program, a seed and an input go in, a log comes out.
 
 use crate::row::{Held, Row, meets, meets_all};
-use guest_programs::logs::{DEADLOCK_LOG, HELLO_FILE, HELLO_LOG, LOST_UPDATE_LOG};
-use guest_programs::programs::{DEADLOCK_TEXT, LOST_UPDATE_TEXT};
+use guest_programs::logs::{
+    BREAKPOINT_LOG, EXTRA_HEADER_FILE, HELLO_FILE, HELLO_LOG, NO_CODE_LOG, SEEDED_CUT_LOG,
+    TAPE_LOG, UNKNOWN_CALL_LOG,
+};
+use guest_programs::programs::{
+    BREAKPOINT_TEXT, NO_CODE_TEXT, SEEDED_CUT_TEXT, TAPE_TEXT, UNKNOWN_CALL_TEXT,
+};
+use guest_programs::texts::ACCESS_LIMIT;
 use std::test::Fail;
 
 const HELLO: Held<'static> = ("hello", &HELLO_FILE, &[]);
 
-const LOG: Held<'static> = ("hello.log", &HELLO_LOG, &[]);
-
-const LOST: Held<'static> = ("lost.s", LOST_UPDATE_TEXT, &[]);
-
-const LOST_LOG: Held<'static> = ("lost.log", &LOST_UPDATE_LOG, &[]);
-
-/// The schedule of hello.
-const REPLAYED: Row<'static> = Row {
-    held: &[HELLO, LOG, ("schedule", b"0 8\n", &[])],
+/// A recording of hello.
+const RECORDED: Row<'static> = Row {
+    held: &[HELLO],
     before: &[],
-    words: &["replay", "hello", "hello.log", "schedule"],
+    words: &["record", "hello", "log"],
     failing: [&[], &[], &[]],
     status: 0,
-    out: b"hi\n",
+    out: b"steps 8, calls 2, end exit 0 0\n",
     err: "",
-    saved: ("schedule", Some(b"0 8\n")),
+    saved: ("log", Some(&HELLO_LOG)),
 };
 
-/// Schedules of the lost update.
-const UPDATED: Row<'static> = Row {
-    before: &[&["asm", "lost.s", "lost"]],
-    words: &["replay", "lost", "lost.log", "schedule"],
-    saved: ("out", None),
-    ..REPLAYED
-};
-
-const DIFFERS: Row<'static> = Row {
-    status: 9,
-    out: b"",
-    ..UPDATED
-};
-
-/// Texts of no schedule.
-const BAD_TEXT: Row<'static> = Row {
-    status: 5,
-    out: b"",
-    saved: ("out", None),
-    ..REPLAYED
+/// A recording of a program that is assembled first.
+const MADE: Row<'static> = Row {
+    before: &[&["asm", "text.s", "program"]],
+    words: &["record", "program", "log"],
+    ..RECORDED
 };
 
 const ABSENT: Row<'static> = Row {
     status: 14,
     out: b"",
-    saved: ("out", None),
-    ..REPLAYED
+    saved: ("log", None),
+    ..RECORDED
 };
 
 const DEVICE: Row<'static> = Row {
     status: 6,
     out: b"",
     err: "odr: device\n",
-    ..REPLAYED
+    saved: ("log", None),
+    ..RECORDED
 };
 
-static ROWS: [Row<'static>; 19] = [
-    REPLAYED,
+static ROWS: [Row<'static>; 21] = [
+    RECORDED,
     // No further call is made: one would fail.
     Row {
-        failing: [&[3], &[1], &[0]],
-        ..REPLAYED
+        failing: [&[2], &[1], &[0]],
+        ..RECORDED
     },
     Row {
-        held: &[
-            LOST,
-            LOST_LOG,
-            ("schedule", b"0 8\n1 3\n2 3\n1 4\n2 4\n0 17\n", &[]),
+        held: &[("hello", &EXTRA_HEADER_FILE, &[])],
+        ..RECORDED
+    },
+    Row {
+        words: &["record", "hello", "hello"],
+        saved: ("hello", Some(&HELLO_LOG)),
+        ..RECORDED
+    },
+    Row {
+        held: &[("text.s", TAPE_TEXT, &[]), ("input", b"abcdef", &[])],
+        words: &["record", "program", "log", "--input", "input"],
+        out: b"steps 26, calls 7, end done\n",
+        saved: ("log", Some(&TAPE_LOG)),
+        ..MADE
+    },
+    Row {
+        held: &[("text.s", SEEDED_CUT_TEXT, &[])],
+        words: &["record", "program", "log", "--seed", "42", "--limit", "6"],
+        out: b"steps 6, calls 1, end cut\n",
+        saved: ("log", Some(&SEEDED_CUT_LOG)),
+        ..MADE
+    },
+    Row {
+        // The seed is 42 where none is given.
+        held: &[("text.s", SEEDED_CUT_TEXT, &[])],
+        words: &["record", "--limit=6", "program", "log"],
+        out: b"steps 6, calls 1, end cut\n",
+        saved: ("log", Some(&SEEDED_CUT_LOG)),
+        ..MADE
+    },
+    Row {
+        // The limit is 100,000 where none is given.
+        held: &[("text.s", b"loop: j loop", &[])],
+        out: b"steps 100000, calls 0, end cut\n",
+        saved: ("none", None),
+        ..MADE
+    },
+    Row {
+        held: &[("text.s", UNKNOWN_CALL_TEXT, &[])],
+        out: b"steps 4, calls 2, end done\n",
+        saved: ("log", Some(&UNKNOWN_CALL_LOG)),
+        ..MADE
+    },
+    Row {
+        held: &[("text.s", ACCESS_LIMIT, &[])],
+        out: b"steps 1541, calls 1, end done\n",
+        saved: ("none", None),
+        ..MADE
+    },
+    Row {
+        held: &[("text.s", NO_CODE_TEXT, &[])],
+        out: b"steps 1, calls 0, end fault 0 FetchFault\n",
+        saved: ("log", Some(&NO_CODE_LOG)),
+        ..MADE
+    },
+    Row {
+        held: &[("text.s", BREAKPOINT_TEXT, &[])],
+        out: b"steps 1, calls 0, end fault 0 Breakpoint\n",
+        saved: ("log", Some(&BREAKPOINT_LOG)),
+        ..MADE
+    },
+    Row {
+        // What is recorded is inferred.
+        before: &[&["record", "hello", "log"]],
+        words: &["infer", "hello", "log", "out"],
+        out: b"run, 8 steps\n",
+        saved: ("out", Some(b"0 8\n")),
+        ..RECORDED
+    },
+    Row {
+        // What is inferred is replayed.
+        before: &[
+            &["record", "hello", "log"],
+            &["infer", "hello", "log", "out"],
         ],
-        out: b"1",
-        ..UPDATED
+        words: &["replay", "hello", "log", "out"],
+        out: b"hi\n",
+        ..RECORDED
     },
     Row {
-        held: &[LOST, LOST_LOG, ("schedule", b"0 8\n1 7\n2 7\n0 17\n", &[])],
-        err: "odr: differs at 35\n",
-        ..DIFFERS
-    },
-    Row {
-        // The join waits.
-        held: &[LOST, LOST_LOG, ("schedule", b"0 11\n", &[])],
-        err: "odr: differs at 10\n",
-        ..DIFFERS
-    },
-    Row {
-        held: &[LOST, LOST_LOG, ("schedule", b"0 8\n", &[])],
-        err: "odr: differs at 8\n",
-        ..DIFFERS
-    },
-    Row {
-        held: &[LOST, LOST_LOG, ("schedule", b"", &[])],
-        err: "odr: differs at 0\n",
-        ..DIFFERS
-    },
-    Row {
-        held: &[
-            ("lost.s", DEADLOCK_TEXT, &[]),
-            ("lost.log", &DEADLOCK_LOG, &[]),
-            ("schedule", b"0 9\n1 4\n2 4\n", &[]),
-        ],
-        out: b"",
-        ..UPDATED
-    },
-    Row {
-        held: &[HELLO, LOG, ("schedule", b"0 8\n0 1\n", &[])],
-        err: "odr: text: line 2\n",
-        ..BAD_TEXT
-    },
-    Row {
-        held: &[HELLO, LOG, ("schedule", b"0 08\n", &[])],
-        err: "odr: text: line 1\n",
-        ..BAD_TEXT
-    },
-    Row {
-        held: &[HELLO, LOG, ("schedule", b"0 0\n", &[])],
-        err: "odr: text: line 1\n",
-        ..BAD_TEXT
-    },
-    Row {
-        held: &[HELLO, LOG, ("schedule", b"0 8", &[])],
-        err: "odr: text: line 1\n",
-        ..BAD_TEXT
-    },
-    Row {
-        words: &["replay", "gone", "lost", "missing"],
+        words: &["record", "gone", "log"],
         err: "odr: no file: gone\n",
         ..ABSENT
     },
     Row {
-        words: &["replay", "hello", "lost", "missing"],
-        err: "odr: no file: lost\n",
-        ..ABSENT
-    },
-    Row {
-        words: &["replay", "hello", "hello.log", "missing"],
-        err: "odr: no file: missing\n",
+        words: &["record", "hello", "log", "--input=gone"],
+        err: "odr: no file: gone\n",
         ..ABSENT
     },
     Row {
@@ -151,41 +153,48 @@ static ROWS: [Row<'static>; 19] = [
         ..DEVICE
     },
     Row {
+        words: &["record", "hello", "log", "--input=hello"],
+        failing: [&[1], &[], &[]],
+        ..DEVICE
+    },
+    Row {
+        words: &["record", "hello", "log", "--input=hello"],
         failing: [&[2], &[], &[]],
         ..DEVICE
     },
     Row {
         failing: [&[], &[0], &[]],
+        saved: ("log", Some(&HELLO_LOG)),
         ..DEVICE
     },
 ];
 
 #[test]
-fn replays(rt: HostRuntime) -> Result<(), Fail> {
+fn recordings(rt: HostRuntime) -> Result<(), Fail> {
     meets_all(&rt, rt.alloc(), &ROWS)
 }
 
-/// The first bytes of a log, and the log with one byte more.
+/// An input of as many bytes as one may have, and of one more.
 #[test]
-fn logs_are_bad_at_their_offsets(rt: HostRuntime) -> Result<(), Fail> {
+fn input_above_the_limit(rt: HostRuntime) -> Result<(), Fail> {
     let alloc = rt.alloc();
-    let mut longer = HELLO_LOG.to_vec(alloc)?;
-    longer.extend_from_slice(&[0])?;
-    for size in 0..=46 {
-        if size == 45 {
-            continue;
-        }
-        let offset = size.min(45);
-        let err = format!(in alloc; "odr: log: bad at {offset}\n")?;
-        let row = Row {
-            held: &[HELLO, ("hello.log", &longer.as_slice()[..size], &[])],
-            status: 4,
-            out: b"",
-            err: err.as_str(),
-            saved: ("out", None),
-            ..REPLAYED
-        };
-        meets(&rt, alloc, size, &row)?;
-    }
-    Ok(())
+    let input = vec![in alloc; 0; 1_048_577]?;
+    let held = [HELLO, ("input", input.as_slice(), [].as_slice())];
+    let row = Row {
+        held: &held,
+        words: &["record", "hello", "log", "--input", "input"],
+        status: 5,
+        out: b"",
+        err: "odr: input: too large\n",
+        saved: ("log", None),
+        ..RECORDED
+    };
+    meets(&rt, alloc, 0, &row)?;
+    let held = [HELLO, ("input", &input.as_slice()[1..], [].as_slice())];
+    let row = Row {
+        held: &held,
+        words: row.words,
+        ..RECORDED
+    };
+    meets(&rt, alloc, 1, &row)
 }
