@@ -1,0 +1,5 @@
+pub mod Literals
+pub mod Formula
+pub mod UnitRule
+pub mod Steps
+pub mod Laws

@@ -1,0 +1,32 @@
+//! Laws of the unit rule, each as the contract of a function that does nothing.
+ghost use Rattle.clause_store.specs.Laws.{FollowsIsBySteps, RestIsBySteps, FollowsIsTrue, DerivedIsTrue, MoreClausesKeep, OppositesFollow};
+
+/// A line follows exactly where, with its literals false, the rule makes a clause false step by step.
+pub fn follows_is_by_steps()
+    ensures { FollowsIsBySteps }
+{}
+
+/// What holds wherever the rule has nothing left to do is what its steps give.
+pub fn rest_is_by_steps()
+    ensures { RestIsBySteps }
+{}
+
+/// A line that follows is true in every assignment that satisfies the clauses.
+pub fn follows_is_true()
+    ensures { FollowsIsTrue }
+{}
+
+/// Derived lines are true in every assignment that satisfies the clauses.
+pub fn derived_is_true()
+    ensures { DerivedIsTrue }
+{}
+
+/// More clauses keep what follows, whatever the order of clauses and literals.
+pub fn more_clauses_keep()
+    ensures { MoreClausesKeep }
+{}
+
+/// A line with a literal and its opposite follows from any clauses.
+pub fn opposites_follow()
+    ensures { OppositesFollow }
+{}
