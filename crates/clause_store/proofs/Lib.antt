@@ -1,3 +1,5 @@
 pub mod Members
 pub mod Rest
 pub mod StepLemmas
+pub mod Agreement
+pub mod Rooting

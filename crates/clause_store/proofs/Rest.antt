@@ -7,9 +7,9 @@ use Rattle.std.proofs.lemmas.List.{take_all}
 use Rattle.std.proofs.lemmas.List.Elements.{All-nil, All-cons, All-append, All-more, All-contains}
 use Rattle.clause_store.specs.declared.lit.Lit.{Lit}
 use Rattle.clause_store.specs.Literals.{opposite, literal_value, Assignment, IsTrueUnder, Satisfies}
-use Rattle.clause_store.specs.UnitRule.{Partial, MakesTrue, MakesFalse, LeavesOpen, IsAtRest, AllAtRest, Derived}
+use Rattle.clause_store.specs.UnitRule.{Partial, MakesTrue, MakesFalse, LeavesOpen, IsGiven, IsAtRest, AllAtRest, Derived}
 use Rattle.clause_store.specs.Laws.{FollowsIsTrue, DerivedIsTrue, SameLiterals, MoreClausesKeep, OppositesFollow}
-use Rattle.clause_store.proofs.Members.{All-from_contains, Any-from_contains}
+use Rattle.clause_store.proofs.Members.{Contains-nil, Contains-cons_cases, All-from_contains, Any-from_contains}
 
 not_self : (b : Bool) → b ≡ not b → ⊥
 not_self true e = false≢true (sym e)
@@ -58,11 +58,38 @@ forced v clause l (inr two) others = go (others two.one two.one_listed) (others 
     go (inr f) _ = absurd (open_not_false v two.one two.one_open f)
     go (inl e) (inr f) = absurd (open_not_false v two.other two.other_open f)
 
+-- of a clause of two or three literals at rest, the last is true where the others are false
+pub last_of_two : (v : Partial) (a b : Lit) → IsAtRest v (a ∷ b ∷ []) → MakesFalse v a → MakesTrue v b
+last_of_two v a b rest fa = forced v (a ∷ b ∷ []) b rest (λ k listed. go k (Contains-cons_cases a (b ∷ []) k listed))
+  where
+    last : (k : Lit) → (b ≡ k) ⊎ Contains [] k → (k ≡ b) ⊎ MakesFalse v k
+    last k (inl e) = inl (sym e)
+    last k (inr none) = absurd (Contains-nil k none)
+
+    go : (k : Lit) → (a ≡ k) ⊎ Contains (b ∷ []) k → (k ≡ b) ⊎ MakesFalse v k
+    go k (inl e) = inr (subst (λ (l : Lit). MakesFalse v l) e fa)
+    go k (inr listed) = last k (Contains-cons_cases b [] k listed)
+
+pub last_of_three : (v : Partial) (a b c : Lit) → IsAtRest v (a ∷ b ∷ c ∷ []) → MakesFalse v a → MakesFalse v b → MakesTrue v c
+last_of_three v a b c rest fa fb = forced v (a ∷ b ∷ c ∷ []) c rest (λ k listed. first k (Contains-cons_cases a (b ∷ c ∷ []) k listed))
+  where
+    last : (k : Lit) → (c ≡ k) ⊎ Contains [] k → (k ≡ c) ⊎ MakesFalse v k
+    last k (inl e) = inl (sym e)
+    last k (inr none) = absurd (Contains-nil k none)
+
+    second : (k : Lit) → (b ≡ k) ⊎ Contains (c ∷ []) k → (k ≡ c) ⊎ MakesFalse v k
+    second k (inl e) = inr (subst (λ (l : Lit). MakesFalse v l) e fb)
+    second k (inr listed) = last k (Contains-cons_cases c [] k listed)
+
+    first : (k : Lit) → (a ≡ k) ⊎ Contains (b ∷ c ∷ []) k → (k ≡ c) ⊎ MakesFalse v k
+    first k (inl e) = inr (subst (λ (l : Lit). MakesFalse v l) e fa)
+    first k (inr listed) = second k (Contains-cons_cases b (c ∷ []) k listed)
+
 -- the values of an assignment, with nothing open
 abbrev pub decided : Assignment → Partial
 decided w x = Some (w x)
 
-true_decided : (w : Assignment) (l : Lit) → literal_value w l ≡ true → MakesTrue (decided w) l
+pub true_decided : (w : Assignment) (l : Lit) → literal_value w l ≡ true → MakesTrue (decided w) l
 true_decided w l e = go l.positive (w l.var) e
   where
     go : (p b : Bool) → cond p b (not b) ≡ true → Some b ≡ Some p
@@ -70,13 +97,42 @@ true_decided w l e = go l.positive (w l.var) e
     go false true h = absurd (false≢true h)
     go false false h = refl
 
-false_decided : (w : Assignment) (l : Lit) → literal_value w l ≡ false → MakesFalse (decided w) l
+pub false_decided : (w : Assignment) (l : Lit) → literal_value w l ≡ false → MakesFalse (decided w) l
 false_decided w l e = go l.positive (w l.var) e
   where
     go : (p b : Bool) → cond p b (not b) ≡ false → Some b ≡ Some (not p)
     go true b h = ap (λ (x : Bool). Some x) h
     go false true h = refl
     go false false h = absurd (false≢true (sym h))
+
+pub given-decided : (w : Assignment) (l : Lit) → IsGiven (decided w) l (literal_value w l)
+given-decided w l = go (literal_value w l) refl
+  where
+    go : (b : Bool) → literal_value w l ≡ b → IsGiven (decided w) l b
+    go true e = true_decided w l e
+    go false e = false_decided w l e
+
+-- a literal has one value at most
+pub one_value : (v : Partial) (l : Lit) (p q : Bool) → IsGiven v l p → IsGiven v l q → p ≡ q
+one_value v l true true g h = refl
+one_value v l true false g h = absurd (true_not_false v l g h)
+one_value v l false true g h = absurd (true_not_false v l h g)
+one_value v l false false g h = refl
+
+pub not-not : (b : Bool) → not (not b) ≡ b
+not-not true = refl
+not-not false = refl
+
+pub given-opposite : (v : Partial) (l : Lit) (b : Bool) → IsGiven v l b → IsGiven v (opposite l) (not b)
+given-opposite v l true g = g ∙ ap (λ (p : Bool). Some p) (sym (not-not l.positive))
+given-opposite v l false g = g
+
+pub literal_value-opposite : (w : Assignment) (l : Lit) → literal_value w (opposite l) ≡ not (literal_value w l)
+literal_value-opposite w l = go l.positive (w l.var)
+  where
+    go : (p b : Bool) → cond (not p) b (not b) ≡ not (cond p b (not b))
+    go true b = refl
+    go false b = sym (not-not b)
 
 -- Where all is decided, clauses that are true are at rest.
 pub rest-decided : (w : Assignment) (clauses : List (List Lit)) → Satisfies w clauses → AllAtRest (decided w) clauses

@@ -1,8 +1,9 @@
--- Laws of the unit rule, in terms of all clauses and lines.
-use Rattle.std.specs.Prelude.{◌≡◌, ◌⊎◌, ◌↔◌, ℕ, Bool, Some, List, Contains}
+-- Laws of assignments and of the unit rule.
+use Rattle.std.specs.Prelude.{◌≡◌, ◌⊎◌, ◌↔◌, ℕ, ◌<◌, ◌≤◌, Bool, Some, List, Contains}
 use Rattle.clause_store.specs.declared.lit.Lit.{Lit}
 use Rattle.clause_store.specs.Literals.{Assignment, IsTrueUnder, Satisfies, opposite}
 use Rattle.clause_store.specs.UnitRule.{Partial, MakesTrue, AllAtRest, Follows, Derived}
+use Rattle.clause_store.specs.Formula.{Formula, AllKnown, Extension}
 use Rattle.clause_store.specs.Steps.{FollowsBySteps, ReachesFalse, ReachesTrue}
 
 -- Rest and steps say the same of what follows.
@@ -44,3 +45,14 @@ MoreClausesKeep =
 -- A line that has a literal and its opposite follows from any clauses.
 abbrev pub OppositesFollow : Type 0
 OppositesFollow = (clauses : List (List Lit)) (line : List Lit) (l : Lit) → Contains line l → Contains line (opposite l) → Follows clauses line
+
+-- Clauses are satisfied alike by assignments that agree on their variables.
+abbrev pub SatisfiedAlike : Type 0
+SatisfiedAlike =
+    (f : Formula) (w u : Assignment) → AllKnown f → ((x : ℕ) → x < f.vars → u x ≡ w x) → Satisfies w f.clauses → Satisfies u f.clauses
+
+-- What extends an extension, and keeps more variables, extends the first assignment.
+abbrev pub ExtensionsCompose : Type 0
+ExtensionsCompose =
+    (vars more : ℕ) (w : Assignment) (clauses further : List (List Lit)) (first : Extension vars w clauses)
+    → vars ≤ more → Extension more first.extended further → Extension vars w further

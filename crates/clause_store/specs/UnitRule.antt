@@ -1,5 +1,5 @@
 -- The unit rule, said by the truth values of some variables at which it has nothing to do.
-use Rattle.std.specs.Prelude.{◌≡◌, ◌≢◌, ◌⊎◌, ℕ, Bool, not, Option, Some, None, List, ◌++◌, take, slice_get, All, Any, Contains}
+use Rattle.std.specs.Prelude.{◌≡◌, ◌≢◌, ◌⊎◌, ℕ, Bool, true, false, not, Option, Some, None, List, ◌++◌, take, slice_get, All, Any, Contains}
 use Rattle.clause_store.specs.declared.lit.Lit.{Lit}
 
 -- Truth values of some variables; the others are open.
@@ -14,6 +14,11 @@ MakesFalse v l = v l.var ≡ Some (not l.positive)
 
 abbrev pub LeavesOpen : Partial → Lit → Type 0
 LeavesOpen v l = v l.var ≡ None
+
+-- the literal is true, or is false, as this value says
+abbrev pub IsGiven : Partial → Lit → Bool → Type 0
+IsGiven v l true = MakesTrue v l
+IsGiven v l false = MakesFalse v l
 
 -- two literals of the clause that differ are open: a literal that stands twice counts once
 pub record HasTwoOpen (v : Partial) (clause : List Lit) : Type 0 where

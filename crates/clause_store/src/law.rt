@@ -1,5 +1,6 @@
-//! Laws of the unit rule, each as the contract of a function that does nothing.
-ghost use Rattle.clause_store.specs.Laws.{FollowsIsBySteps, RestIsBySteps, FollowsIsTrue, DerivedIsTrue, MoreClausesKeep, OppositesFollow};
+//! Laws of assignments and of the unit rule, each as the contract of a function that does nothing.
+ghost use Rattle.clause_store.specs.Laws.{FollowsIsBySteps, RestIsBySteps, FollowsIsTrue, DerivedIsTrue, MoreClausesKeep, OppositesFollow, SatisfiedAlike, ExtensionsCompose};
+ghost use Rattle.clause_store.specs.Rooted.{RootsAreRooted, RootedStays};
 
 /// A line follows exactly where, with its literals false, the rule makes a clause false step by step.
 pub fn follows_is_by_steps()
@@ -29,4 +30,24 @@ pub fn more_clauses_keep()
 /// A line with a literal and its opposite follows from any clauses.
 pub fn opposites_follow()
     ensures { OppositesFollow }
+{}
+
+/// Assignments that agree on the variables of clauses satisfy them alike.
+pub fn satisfied_alike()
+    ensures { SatisfiedAlike }
+{}
+
+/// An extension of an extension is one.
+pub fn extensions_compose()
+    ensures { ExtensionsCompose }
+{}
+
+/// A literal of a root is rooted.
+pub fn roots_are_rooted()
+    ensures { RootsAreRooted }
+{}
+
+/// Clauses that are added later keep a literal rooted.
+pub fn rooted_stays()
+    ensures { RootedStays }
 {}
