@@ -1,4 +1,4 @@
-ghost use Rattle.std.specs.Prelude.{◌<◌, true, false, IfOk, OnErr};
+ghost use Rattle.std.specs.Prelude.{◌<◌, true, false, IfOk};
 ghost use Rattle.clause_store.specs.Formula.{Grows};
 ghost use Rattle.bit_gates.specs.Gate.{both, either, differ, agree, joined, chosen, IsGate, BothGive, OneGives, ChosenGives};
 
@@ -14,7 +14,7 @@ pub fn and(clauses: &mut ClauseStore<'_>, a: Lit, b: Lit) -> Result<Lit, Memory>
     ensures gate { IfOk result (λ out. IsGate clauses.old clauses.new (joined both a b) out) }
     ensures given { IfOk result (λ out. BothGive both clauses.new.clauses a b out) }
     ensures settled { IfOk result (λ out. OneGives false clauses.new.clauses a b out) }
-    ensures err { OnErr result (Grows clauses.old clauses.new) }
+    ensures grows { Grows clauses.old clauses.new }
 {
     let out = fresh_literal(clauses)?;
     fix_and(clauses, out, a, b)?;
@@ -28,7 +28,7 @@ pub fn or(clauses: &mut ClauseStore<'_>, a: Lit, b: Lit) -> Result<Lit, Memory>
     ensures gate { IfOk result (λ out. IsGate clauses.old clauses.new (joined either a b) out) }
     ensures given { IfOk result (λ out. BothGive either clauses.new.clauses a b out) }
     ensures settled { IfOk result (λ out. OneGives true clauses.new.clauses a b out) }
-    ensures err { OnErr result (Grows clauses.old clauses.new) }
+    ensures grows { Grows clauses.old clauses.new }
 {
     let neither = and(clauses, a.opposite(), b.opposite())?;
     Ok(neither.opposite())
@@ -41,7 +41,7 @@ pub fn mux(clauses: &mut ClauseStore<'_>, when: Lit, yes: Lit, no: Lit) -> Resul
     requires no_known { no.var < clauses.old.vars }
     ensures gate { IfOk result (λ out. IsGate clauses.old clauses.new (chosen when yes no) out) }
     ensures given { IfOk result (λ out. ChosenGives clauses.new.clauses when yes no out) }
-    ensures err { OnErr result (Grows clauses.old clauses.new) }
+    ensures grows { Grows clauses.old clauses.new }
 {
     let out = fresh_literal(clauses)?;
     fix_mux(clauses, out, when, yes, no)?;
@@ -54,7 +54,7 @@ pub fn xor(clauses: &mut ClauseStore<'_>, a: Lit, b: Lit) -> Result<Lit, Memory>
     requires b_known { b.var < clauses.old.vars }
     ensures gate { IfOk result (λ out. IsGate clauses.old clauses.new (joined differ a b) out) }
     ensures given { IfOk result (λ out. BothGive differ clauses.new.clauses a b out) }
-    ensures err { OnErr result (Grows clauses.old clauses.new) }
+    ensures grows { Grows clauses.old clauses.new }
 {
     mux(clauses, a, b.opposite(), b)
 }
@@ -65,7 +65,7 @@ pub fn same(clauses: &mut ClauseStore<'_>, a: Lit, b: Lit) -> Result<Lit, Memory
     requires b_known { b.var < clauses.old.vars }
     ensures gate { IfOk result (λ out. IsGate clauses.old clauses.new (joined agree a b) out) }
     ensures given { IfOk result (λ out. BothGive agree clauses.new.clauses a b out) }
-    ensures err { OnErr result (Grows clauses.old clauses.new) }
+    ensures grows { Grows clauses.old clauses.new }
 {
     mux(clauses, a, b, b.opposite())
 }

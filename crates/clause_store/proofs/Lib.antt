@@ -2,4 +2,5 @@ pub mod Members
 pub mod Rest
 pub mod StepLemmas
 pub mod Agreement
+pub mod Growth
 pub mod Rooting

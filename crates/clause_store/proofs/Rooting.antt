@@ -1,12 +1,12 @@
 -- Literals that some variables decide.
-use Rattle.std.proofs.Common.{◌⊎◌, Bool, true, false, Option, List, sym, ◌∙◌, ap, subst, inl, inr}
+use Rattle.std.proofs.Common.{◌⊎◌, Bool, true, false, Option, sym, ◌∙◌, ap, inl, inr}
 use Rattle.std.specs.Prelude.{IsSome, is_some}
 use Rattle.std.proofs.lemmas.Bool.{false≢true}
 use Rattle.std.proofs.lemmas.List.Elements.{All-contains}
 use Rattle.clause_store.specs.declared.lit.Lit.{Lit}
-use Rattle.clause_store.specs.UnitRule.{Partial, MakesTrue, MakesFalse, LeavesOpen, IsGiven, IsAtRest, AllAtRest}
+use Rattle.clause_store.specs.UnitRule.{Partial, MakesTrue, MakesFalse, LeavesOpen, IsGiven}
 use Rattle.clause_store.specs.Rooted.{RootsAreRooted, RootedStays}
-use Rattle.clause_store.proofs.Members.{All-left}
+use Rattle.clause_store.proofs.Growth.{older_at_rest}
 use Rattle.clause_store.proofs.Rest.{lit_cases}
 
 pub given_from_value : (v : Partial) (l : Lit) → IsSome (v l.var) → (b : Bool) × IsGiven v l b
@@ -25,5 +25,4 @@ pub roots : RootsAreRooted
 roots clauses of l listed v rest values = All-contains (λ x. IsSome (v x)) of l.var values listed
 
 pub rooted_stays : RootedStays
-rooted_stays old new of l grows rooted v rest values =
-    rooted v (All-left (IsAtRest v) old.clauses grows.more (subst (λ (cs : List (List Lit)). AllAtRest v cs) grows.clauses rest)) values
+rooted_stays old new of l grows rooted v rest values = rooted v (older_at_rest old new v grows rest) values

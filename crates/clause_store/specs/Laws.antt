@@ -3,7 +3,7 @@ use Rattle.std.specs.Prelude.{◌≡◌, ◌⊎◌, ◌↔◌, ℕ, ◌<◌, ◌
 use Rattle.clause_store.specs.declared.lit.Lit.{Lit}
 use Rattle.clause_store.specs.Literals.{Assignment, IsTrueUnder, Satisfies, opposite}
 use Rattle.clause_store.specs.UnitRule.{Partial, MakesTrue, AllAtRest, Follows, Derived}
-use Rattle.clause_store.specs.Formula.{Formula, AllKnown, Extension}
+use Rattle.clause_store.specs.Formula.{Formula, AllKnown, Grows, Extension}
 use Rattle.clause_store.specs.Steps.{FollowsBySteps, ReachesFalse, ReachesTrue}
 
 -- Rest and steps say the same of what follows.
@@ -56,3 +56,15 @@ abbrev pub ExtensionsCompose : Type 0
 ExtensionsCompose =
     (vars more : ℕ) (w : Assignment) (clauses further : List (List Lit)) (first : Extension vars w clauses)
     → vars ≤ more → Extension more first.extended further → Extension vars w further
+
+-- What grew and grew again has grown.
+abbrev pub GrowthComposes : Type 0
+GrowthComposes = (old between new : Formula) → Grows old between → Grows between new → Grows old new
+
+-- Where all clauses are true, the older ones are.
+abbrev pub OlderSatisfied : Type 0
+OlderSatisfied = (old new : Formula) (w : Assignment) → Grows old new → Satisfies w new.clauses → Satisfies w old.clauses
+
+-- Where all clauses are at rest, the older ones are.
+abbrev pub OlderAtRest : Type 0
+OlderAtRest = (old new : Formula) (v : Partial) → Grows old new → AllAtRest v new.clauses → AllAtRest v old.clauses

@@ -1,5 +1,5 @@
 //! Laws of assignments and of the unit rule, each as the contract of a function that does nothing.
-ghost use Rattle.clause_store.specs.Laws.{FollowsIsBySteps, RestIsBySteps, FollowsIsTrue, DerivedIsTrue, MoreClausesKeep, OppositesFollow, SatisfiedAlike, ExtensionsCompose};
+ghost use Rattle.clause_store.specs.Laws.{FollowsIsBySteps, RestIsBySteps, FollowsIsTrue, DerivedIsTrue, MoreClausesKeep, OppositesFollow, SatisfiedAlike, ExtensionsCompose, GrowthComposes, OlderSatisfied, OlderAtRest};
 ghost use Rattle.clause_store.specs.Rooted.{RootsAreRooted, RootedStays};
 
 /// A line follows exactly where, with its literals false, the rule makes a clause false step by step.
@@ -40,6 +40,21 @@ pub fn satisfied_alike()
 /// An extension of an extension is one.
 pub fn extensions_compose()
     ensures { ExtensionsCompose }
+{}
+
+/// What grew and grew again has grown.
+pub fn growth_composes()
+    ensures { GrowthComposes }
+{}
+
+/// Where all clauses are true, the older ones are.
+pub fn older_satisfied()
+    ensures { OlderSatisfied }
+{}
+
+/// Where all clauses are at rest, the older ones are.
+pub fn older_at_rest()
+    ensures { OlderAtRest }
 {}
 
 /// A literal of a root is rooted.
