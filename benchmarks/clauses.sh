@@ -1,5 +1,6 @@
 #!/usr/bin/env bash
-# Adds 10 million clauses of three literals to a store, and prints the seconds and the peak memory.
+# Adds 10 million clauses of three literals to a store, and prints the time that passed, the processor time and the
+# peak memory.
 set -euo pipefail
 cd "$(dirname "$0")/.."
 folder=$(mktemp -d)
@@ -75,4 +76,4 @@ PROOF
 
 cd "$program"
 rt run > log 2>&1 || { cat log; exit 1; }
-/usr/bin/time --format "peak memory: %M kB" out/clause_benchmark
+/usr/bin/time --format "processor time: %U s of the program, %S s of the system; peak memory: %M kB" out/clause_benchmark
