@@ -1,0 +1,5 @@
+pub mod Gathered
+pub mod Terms
+pub mod Bounds
+pub mod Equal
+pub mod Growth

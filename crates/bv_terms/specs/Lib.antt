@@ -1,0 +1,6 @@
+pub mod BitVectors
+pub mod Shapes
+pub mod Values
+pub mod Fitting
+pub mod Variables
+pub mod Placed
