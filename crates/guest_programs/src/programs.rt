@@ -37,7 +37,8 @@ pub const LOST_UPDATE: Program = Program {
     data: &[0; 8],
 };
 
-pub const LOST_UPDATE_TEXT: &[u8] = b"la a0, work; li a1, 0; li a7, 3; ecall; la a0, work; ecall; li a0, 1; li a7, 4; ecall; \
+pub const LOST_UPDATE_TEXT: &[u8] =
+    b"la a0, work; li a1, 0; li a7, 3; ecall; la a0, work; ecall; li a0, 1; li a7, 4; ecall; \
     li a0, 2; ecall; la s0, cnt; lw s1, 0(s0); addi s1, s1, 48; sb s1, 4(s0); addi a0, s0, 4; \
     li a1, 1; li a7, 8; ecall; li a0, 0; li a7, 1; ecall; \
     work: la s0, cnt; lw s1, 0(s0); addi s1, s1, 1; sw s1, 0(s0); li a7, 2; ecall; \
@@ -57,7 +58,8 @@ pub const LOCKED: Program = Program {
     data: &[0; 8],
 };
 
-pub const LOCKED_TEXT: &[u8] = b"la a0, work; li a1, 0; li a7, 3; ecall; la a0, work; ecall; li a0, 1; li a7, 4; ecall; \
+pub const LOCKED_TEXT: &[u8] =
+    b"la a0, work; li a1, 0; li a7, 3; ecall; la a0, work; ecall; li a0, 1; li a7, 4; ecall; \
     li a0, 2; ecall; la s0, cnt; lw s1, 0(s0); addi s1, s1, 48; sb s1, 4(s0); addi a0, s0, 4; \
     li a1, 1; li a7, 8; ecall; li a0, 0; li a7, 1; ecall; \
     work: li a0, 0; li a7, 5; ecall; la s0, cnt; lw s1, 0(s0); addi s1, s1, 1; sw s1, 0(s0); \
@@ -77,7 +79,8 @@ pub const STORE_BUFFERING: Program = Program {
     data: &[0; 8],
 };
 
-pub const STORE_BUFFERING_TEXT: &[u8] = b"la a0, wa; li a1, 0; li a7, 3; ecall; la a0, wb; ecall; li a0, 1; li a7, 4; ecall; li a0, 2; \
+pub const STORE_BUFFERING_TEXT: &[u8] =
+    b"la a0, wa; li a1, 0; li a7, 3; ecall; la a0, wb; ecall; li a0, 1; li a7, 4; ecall; li a0, 2; \
     ecall; li a0, 0; li a7, 1; ecall; \
     wa: la s0, x; li s1, 1; sw s1, 0(s0); lw s2, 4(s0); bne s2, zero, da; \
     da: li a7, 2; ecall; \
@@ -98,7 +101,8 @@ pub const BYTES_MERGE: Program = Program {
     data: &[0x2e, 0x2e, 0x2e, 0x2e, 0x00, 0x00, 0x00, 0x00],
 };
 
-pub const BYTES_MERGE_TEXT: &[u8] = b"la a0, w1; li a1, 0; li a7, 3; ecall; la a0, w2; ecall; la s0, word; lw s1, 0(s0); \
+pub const BYTES_MERGE_TEXT: &[u8] =
+    b"la a0, w1; li a1, 0; li a7, 3; ecall; la a0, w2; ecall; la s0, word; lw s1, 0(s0); \
     sw s1, 4(s0); addi a0, s0, 4; li a1, 4; li a7, 8; ecall; li a0, 0; li a7, 1; ecall; \
     w1: la s0, word; li s1, 65; sb s1, 0(s0); li a7, 2; ecall; \
     w2: la s0, word; li s1, 66; sb s1, 1(s0); li a7, 2; ecall; \
@@ -118,7 +122,8 @@ pub const MISALIGNED_STORE: Program = Program {
     ],
 };
 
-pub const MISALIGNED_STORE_TEXT: &[u8] = b"la a0, w1; li a1, 0; li a7, 3; ecall; la s0, x; lb s1, 3(s0); lb s2, 4(s0); sb s1, 8(s0); \
+pub const MISALIGNED_STORE_TEXT: &[u8] =
+    b"la a0, w1; li a1, 0; li a7, 3; ecall; la s0, x; lb s1, 3(s0); lb s2, 4(s0); sb s1, 8(s0); \
     sb s2, 9(s0); addi a0, s0, 8; li a1, 2; li a7, 8; ecall; li a0, 0; li a7, 1; ecall; \
     w1: la s0, x; lui s1, 279604; addi s1, s1, 577; sw s1, 2(s0); li a7, 2; ecall; \
     .data; x: .byte 46 46 46 46 46 46 46 46; buf: .word 0";
@@ -136,7 +141,8 @@ pub const STORE_CONDITIONAL_PAIRS: Program = Program {
     data: &[0; 8],
 };
 
-pub const STORE_CONDITIONAL_PAIRS_TEXT: &[u8] = b"la a0, work; li a1, 0; li a7, 3; ecall; la a0, work; ecall; li a0, 1; li a7, 4; ecall; \
+pub const STORE_CONDITIONAL_PAIRS_TEXT: &[u8] =
+    b"la a0, work; li a1, 0; li a7, 3; ecall; la a0, work; ecall; li a0, 1; li a7, 4; ecall; \
     li a0, 2; ecall; la s0, cnt; lw s1, 0(s0); addi s1, s1, 48; sb s1, 4(s0); addi a0, s0, 4; \
     li a1, 1; li a7, 8; ecall; li a0, 0; li a7, 1; ecall; \
     work: la s0, cnt; lr.w s1, (s0); addi s1, s1, 1; sc.w s2, s1, (s0); bne s2, zero, away; \
@@ -155,7 +161,8 @@ pub const DIVIDE: Program = Program {
     data: &[0x02, 0x00, 0x00, 0x00, 0x00, 0x00, 0x00, 0x00],
 };
 
-pub const DIVIDE_TEXT: &[u8] = b"la a0, w1; li a1, 0; li a7, 3; ecall; la s0, d; lw s1, 0(s0); li s2, -7; div s2, s2, s1; \
+pub const DIVIDE_TEXT: &[u8] =
+    b"la a0, w1; li a1, 0; li a7, 3; ecall; la s0, d; lw s1, 0(s0); li s2, -7; div s2, s2, s1; \
     sb s2, 4(s0); addi a0, s0, 4; li a1, 1; li a7, 8; ecall; li a0, 0; li a7, 1; ecall; \
     w1: la s0, d; sw zero, 0(s0); li a7, 2; ecall; \
     .data; d: .word 2; buf: .word 0";
@@ -175,7 +182,8 @@ pub const COMPUTED_ADDRESS: Program = Program {
     ],
 };
 
-pub const COMPUTED_ADDRESS_TEXT: &[u8] = b"la a0, w1; li a1, 0; li a7, 3; ecall; la s0, idx; lw s1, 0(s0); add s2, s0, s1; li s3, 90; \
+pub const COMPUTED_ADDRESS_TEXT: &[u8] =
+    b"la a0, w1; li a1, 0; li a7, 3; ecall; la s0, idx; lw s1, 0(s0); add s2, s0, s1; li s3, 90; \
     sb s3, 4(s2); lbu s4, 8(s0); sb s4, 12(s0); addi a0, s0, 12; li a1, 1; li a7, 8; ecall; \
     li a0, 0; li a7, 1; ecall; \
     w1: la s0, idx; li s1, 4; sw s1, 0(s0); li a7, 2; ecall; \
@@ -192,7 +200,8 @@ pub const RACING_FAULT: Program = Program {
     data: &[0x04, 0x00, 0x10, 0x00, 0x00, 0x00, 0x00, 0x00],
 };
 
-pub const RACING_FAULT_TEXT: &[u8] = b"la a0, w1; li a1, 0; li a7, 3; ecall; la s0, p; lw s1, 0(s0); lw s2, 0(s1); li a0, 0; \
+pub const RACING_FAULT_TEXT: &[u8] =
+    b"la a0, w1; li a1, 0; li a7, 3; ecall; la s0, p; lw s1, 0(s0); lw s2, 0(s1); li a0, 0; \
     li a7, 1; ecall; \
     w1: la s0, p; sw zero, 0(s0); li a7, 2; ecall; \
     .data; p: .word 1048580; v: .word 0";
@@ -209,7 +218,8 @@ pub const DEADLOCK: Program = Program {
     data: &[],
 };
 
-pub const DEADLOCK_TEXT: &[u8] = b"la a0, w1; li a7, 3; ecall; la a0, w2; ecall; li a0, 1; li a7, 4; ecall; li a0, 0; li a7, 1; \
+pub const DEADLOCK_TEXT: &[u8] =
+    b"la a0, w1; li a7, 3; ecall; la a0, w2; ecall; li a0, 1; li a7, 4; ecall; li a0, 0; li a7, 1; \
     ecall; \
     w1: li a0, 0; li a7, 5; ecall; li a0, 1; ecall; li a7, 2; ecall; \
     w2: li a0, 1; li a7, 5; ecall; li a0, 0; ecall; li a7, 2; ecall";
@@ -226,7 +236,8 @@ pub const TAPE: Program = Program {
     data: &[0; 256],
 };
 
-pub const TAPE_TEXT: &[u8] = b"la a0, buf; li a1, 4; li a7, 9; ecall; la a0, buf; ecall; la a0, buf; ecall; la a0, buf; \
+pub const TAPE_TEXT: &[u8] =
+    b"la a0, buf; li a1, 4; li a7, 9; ecall; la a0, buf; ecall; la a0, buf; ecall; la a0, buf; \
     li a1, 0; li a7, 8; ecall; la a0, buf; li a1, 256; ecall; la a0, buf; li a1, 257; ecall; \
     li a7, 2; ecall; \
     .data; buf: .zero 256";
@@ -265,7 +276,8 @@ pub const EIGHT_THREADS: Program = Program {
     data: &[],
 };
 
-pub const EIGHT_THREADS_TEXT: &[u8] = b"la s0, work; li a7, 3; addi a0, s0, 0; ecall; addi a0, s0, 0; ecall; addi a0, s0, 0; ecall; \
+pub const EIGHT_THREADS_TEXT: &[u8] =
+    b"la s0, work; li a7, 3; addi a0, s0, 0; ecall; addi a0, s0, 0; ecall; addi a0, s0, 0; ecall; \
     addi a0, s0, 0; ecall; addi a0, s0, 0; ecall; addi a0, s0, 0; ecall; addi a0, s0, 0; ecall; \
     addi a0, s0, 0; ecall; li a7, 2; ecall; \
     work: li a7, 2; ecall";
@@ -280,7 +292,8 @@ pub const KEPT_LOCK: Program = Program {
     data: &[],
 };
 
-pub const KEPT_LOCK_TEXT: &[u8] = b"la a0, w1; li a7, 3; ecall; li a7, 4; ecall; li a0, 0; li a7, 5; ecall; \
+pub const KEPT_LOCK_TEXT: &[u8] =
+    b"la a0, w1; li a7, 3; ecall; li a7, 4; ecall; li a0, 0; li a7, 5; ecall; \
     w1: li a0, 0; li a7, 5; ecall; li a7, 2; ecall";
 
 /// A jump to where nothing can be fetched.
