@@ -57,7 +57,7 @@ const DEVICE: Row<'static> = Row {
     ..REFUSED
 };
 
-static ROWS: [Row<'static>; 26] = [
+static ROWS: [Row<'static>; 27] = [
     EXPLAINED,
     // No further call is made: one would fail.
     Row {
@@ -129,6 +129,13 @@ static ROWS: [Row<'static>; 26] = [
     },
     Row {
         held: &[("hello", &HELLO_FILE, &[(36, 1)]), LOG],
+        err: "odr: elf: Compressed\n",
+        ..NO_IMAGE
+    },
+    Row {
+        // The log isn't loaded before the program was judged.
+        held: &[("hello", &HELLO_FILE, &[(36, 1)]), LOG],
+        failing: [&[1], &[], &[]],
         err: "odr: elf: Compressed\n",
         ..NO_IMAGE
     },

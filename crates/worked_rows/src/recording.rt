@@ -47,7 +47,7 @@ const DEVICE: Row<'static> = Row {
     ..RECORDED
 };
 
-static ROWS: [Row<'static>; 21] = [
+static ROWS: [Row<'static>; 22] = [
     RECORDED,
     // No further call is made: one would fail.
     Row {
@@ -133,6 +133,15 @@ static ROWS: [Row<'static>; 21] = [
         words: &["replay", "hello", "log", "out"],
         out: b"hi\n",
         ..RECORDED
+    },
+    // The input isn't loaded before the program was judged.
+    Row {
+        held: &[("hello", &HELLO_FILE, &[(36, 1)])],
+        words: &["record", "hello", "log", "--input=hello"],
+        failing: [&[1], &[], &[]],
+        status: 3,
+        err: "odr: elf: Compressed\n",
+        ..ABSENT
     },
     Row {
         words: &["record", "gone", "log"],

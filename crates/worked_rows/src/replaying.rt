@@ -61,7 +61,7 @@ const DEVICE: Row<'static> = Row {
     ..REPLAYED
 };
 
-static ROWS: [Row<'static>; 19] = [
+static ROWS: [Row<'static>; 21] = [
     REPLAYED,
     // No further call is made: one would fail.
     Row {
@@ -140,6 +140,20 @@ static ROWS: [Row<'static>; 19] = [
     Row {
         words: &["replay", "hello", "hello.log", "missing"],
         err: "odr: no file: missing\n",
+        ..ABSENT
+    },
+    // The schedule isn't loaded before the log was judged.
+    Row {
+        words: &["replay", "hello", "lost", "schedule"],
+        failing: [&[2], &[], &[]],
+        err: "odr: no file: lost\n",
+        ..ABSENT
+    },
+    Row {
+        words: &["replay", "hello", "hello", "schedule"],
+        failing: [&[2], &[], &[]],
+        status: 4,
+        err: "odr: log: bad at 0\n",
         ..ABSENT
     },
     Row {
