@@ -1,19 +1,17 @@
-//! The guest programs of the worked rows: each with its text, its instructions and its data.
+//! The guest programs of the worked rows: each with its instructions and its data, and its text beside it.
 //!
 //! In a text a semicolon stands for the end of a line. The instructions were worked out from the RISC-V standard and
 //! compared with an assembler's listings.
 
-/// A program: its text, its instructions, which lie from 0x10000 on, and its data, which lies from 0x100000 on.
+/// A program: its instructions, which lie from 0x10000 on, and its data, which lies from 0x100000 on.
 #[derive(Clone, Copy)]
 pub struct Program {
-    pub text: &'static [u8],
     pub words: &'static [u32],
     pub data: &'static [u8],
 }
 
 /// Writes `hi` and a line feed, and exits.
 pub const HELLO: Program = Program {
-    text: HELLO_TEXT,
     words: &[
         0x00100537, 0x00050513, 0x00300593, 0x00800893, 0x00000073, 0x00000513, 0x00100893,
         0x00000073,
@@ -26,7 +24,6 @@ pub const HELLO_TEXT: &[u8] = b"la a0, msg; li a1, 3; li a7, 8; ecall; li a0, 0;
 
 /// Two workers add 1 without a lock, and the sum is written as a digit.
 pub const LOST_UPDATE: Program = Program {
-    text: LOST_UPDATE_TEXT,
     words: &[
         0x00010537, 0x06450513, 0x00000593, 0x00300893, 0x00000073, 0x00010537, 0x06450513,
         0x00000073, 0x00100513, 0x00400893, 0x00000073, 0x00200513, 0x00000073, 0x00100437,
@@ -46,7 +43,6 @@ pub const LOST_UPDATE_TEXT: &[u8] =
 
 /// Two workers add 1 under a lock, and the sum is written as a digit.
 pub const LOCKED: Program = Program {
-    text: LOCKED_TEXT,
     words: &[
         0x00010537, 0x06450513, 0x00000593, 0x00300893, 0x00000073, 0x00010537, 0x06450513,
         0x00000073, 0x00100513, 0x00400893, 0x00000073, 0x00200513, 0x00000073, 0x00100437,
@@ -68,7 +64,6 @@ pub const LOCKED_TEXT: &[u8] =
 
 /// Each of two workers stores one word and branches on the other.
 pub const STORE_BUFFERING: Program = Program {
-    text: STORE_BUFFERING_TEXT,
     words: &[
         0x00010537, 0x04050513, 0x00000593, 0x00300893, 0x00000073, 0x00010537, 0x06050513,
         0x00000073, 0x00100513, 0x00400893, 0x00000073, 0x00200513, 0x00000073, 0x00000513,
@@ -90,7 +85,6 @@ pub const STORE_BUFFERING_TEXT: &[u8] =
 
 /// Two workers store bytes of one word, which is written.
 pub const BYTES_MERGE: Program = Program {
-    text: BYTES_MERGE_TEXT,
     words: &[
         0x00010537, 0x04c50513, 0x00000593, 0x00300893, 0x00000073, 0x00010537, 0x06450513,
         0x00000073, 0x00100437, 0x00040413, 0x00042483, 0x00942223, 0x00440513, 0x00400593,
@@ -110,7 +104,6 @@ pub const BYTES_MERGE_TEXT: &[u8] =
 
 /// A worker stores a word across two words, and two of its bytes are written.
 pub const MISALIGNED_STORE: Program = Program {
-    text: MISALIGNED_STORE_TEXT,
     words: &[
         0x00010537, 0x04850513, 0x00000593, 0x00300893, 0x00000073, 0x00100437, 0x00040413,
         0x00340483, 0x00440903, 0x00940423, 0x012404a3, 0x00840513, 0x00200593, 0x00800893,
@@ -130,7 +123,6 @@ pub const MISALIGNED_STORE_TEXT: &[u8] =
 
 /// Two workers add 1 by load-reserved and store-conditional, and branch on its success.
 pub const STORE_CONDITIONAL_PAIRS: Program = Program {
-    text: STORE_CONDITIONAL_PAIRS_TEXT,
     words: &[
         0x00010537, 0x06450513, 0x00000593, 0x00300893, 0x00000073, 0x00010537, 0x06450513,
         0x00000073, 0x00100513, 0x00400893, 0x00000073, 0x00200513, 0x00000073, 0x00100437,
@@ -151,7 +143,6 @@ pub const STORE_CONDITIONAL_PAIRS_TEXT: &[u8] =
 
 /// -7 is divided by a word that a worker sets to 0, and the quotient is written.
 pub const DIVIDE: Program = Program {
-    text: DIVIDE_TEXT,
     words: &[
         0x00010537, 0x04850513, 0x00000593, 0x00300893, 0x00000073, 0x00100437, 0x00040413,
         0x00042483, 0xff900913, 0x02994933, 0x01240223, 0x00440513, 0x00100593, 0x00800893,
@@ -169,7 +160,6 @@ pub const DIVIDE_TEXT: &[u8] =
 
 /// A byte is stored at an index that a worker sets, and another is written.
 pub const COMPUTED_ADDRESS: Program = Program {
-    text: COMPUTED_ADDRESS_TEXT,
     words: &[
         0x00010537, 0x05050513, 0x00000593, 0x00300893, 0x00000073, 0x00100437, 0x00040413,
         0x00042483, 0x00940933, 0x05a00993, 0x01390223, 0x00844a03, 0x01440623, 0x00c40513,
@@ -191,7 +181,6 @@ pub const COMPUTED_ADDRESS_TEXT: &[u8] =
 
 /// A word is loaded at an address that a worker sets to 0.
 pub const RACING_FAULT: Program = Program {
-    text: RACING_FAULT_TEXT,
     words: &[
         0x00010537, 0x03050513, 0x00000593, 0x00300893, 0x00000073, 0x00100437, 0x00040413,
         0x00042483, 0x0004a903, 0x00000513, 0x00100893, 0x00000073, 0x00100437, 0x00040413,
@@ -208,7 +197,6 @@ pub const RACING_FAULT_TEXT: &[u8] =
 
 /// Two workers lock two mutexes in opposite orders, and the first is joined.
 pub const DEADLOCK: Program = Program {
-    text: DEADLOCK_TEXT,
     words: &[
         0x00010537, 0x03450513, 0x00300893, 0x00000073, 0x00010537, 0x05050513, 0x00000073,
         0x00100513, 0x00400893, 0x00000073, 0x00000513, 0x00100893, 0x00000073, 0x00000513,
@@ -226,7 +214,6 @@ pub const DEADLOCK_TEXT: &[u8] =
 
 /// Three reads of a tape of six bytes, and three writes.
 pub const TAPE: Program = Program {
-    text: TAPE_TEXT,
     words: &[
         0x00100537, 0x00050513, 0x00400593, 0x00900893, 0x00000073, 0x00100537, 0x00050513,
         0x00000073, 0x00100537, 0x00050513, 0x00000073, 0x00100537, 0x00050513, 0x00000593,
@@ -244,7 +231,6 @@ pub const TAPE_TEXT: &[u8] =
 
 /// A thread and its child that loop.
 pub const SEEDED_CUT: Program = Program {
-    text: SEEDED_CUT_TEXT,
     words: &[
         0x00010537, 0x01450513, 0x00300893, 0x00000073, 0x0000006f, 0x0000006f,
     ],
@@ -257,7 +243,6 @@ pub const SEEDED_CUT_TEXT: &[u8] = b"la a0, work; li a7, 3; ecall; \
 
 /// A call of number 99.
 pub const UNKNOWN_CALL: Program = Program {
-    text: UNKNOWN_CALL_TEXT,
     words: &[0x06300893, 0x00000073, 0x00200893, 0x00000073],
     data: &[],
 };
@@ -266,7 +251,6 @@ pub const UNKNOWN_CALL_TEXT: &[u8] = b"li a7, 99; ecall; li a7, 2; ecall";
 
 /// Eight spawns, of which the last is one too many.
 pub const EIGHT_THREADS: Program = Program {
-    text: EIGHT_THREADS_TEXT,
     words: &[
         0x00010437, 0x05440413, 0x00300893, 0x00040513, 0x00000073, 0x00040513, 0x00000073,
         0x00040513, 0x00000073, 0x00040513, 0x00000073, 0x00040513, 0x00000073, 0x00040513,
@@ -284,7 +268,6 @@ pub const EIGHT_THREADS_TEXT: &[u8] =
 
 /// A thread ends while it holds a mutex that another then wants.
 pub const KEPT_LOCK: Program = Program {
-    text: KEPT_LOCK_TEXT,
     words: &[
         0x00010537, 0x02450513, 0x00300893, 0x00000073, 0x00400893, 0x00000073, 0x00000513,
         0x00500893, 0x00000073, 0x00000513, 0x00500893, 0x00000073, 0x00200893, 0x00000073,
@@ -298,7 +281,6 @@ pub const KEPT_LOCK_TEXT: &[u8] =
 
 /// A jump to where nothing can be fetched.
 pub const NO_CODE: Program = Program {
-    text: NO_CODE_TEXT,
     words: &[0x00400067],
     data: &[],
 };
@@ -307,7 +289,6 @@ pub const NO_CODE_TEXT: &[u8] = b"jalr zero, 4(zero)";
 
 /// A breakpoint at the second instruction.
 pub const BREAKPOINT: Program = Program {
-    text: BREAKPOINT_TEXT,
     words: &[0x00100513, 0x00100073],
     data: &[],
 };

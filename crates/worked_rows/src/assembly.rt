@@ -1,13 +1,18 @@
 //! Assembly: a text goes in, a program comes out.
 
-use crate::row::{Row, meets, meets_all};
+use crate::row::{Row, answers, bytes_of, meets_all};
 use guest_programs::logs::HELLO_FILE;
 use guest_programs::programs::{
-    BREAKPOINT, BYTES_MERGE, COMPUTED_ADDRESS, DEADLOCK, DIVIDE, EIGHT_THREADS, HELLO, HELLO_TEXT,
-    KEPT_LOCK, LOCKED, LOST_UPDATE, MISALIGNED_STORE, NO_CODE, Program, RACING_FAULT, SEEDED_CUT,
-    STORE_BUFFERING, STORE_CONDITIONAL_PAIRS, TAPE, UNKNOWN_CALL,
+    BREAKPOINT, BREAKPOINT_TEXT, BYTES_MERGE, BYTES_MERGE_TEXT, COMPUTED_ADDRESS,
+    COMPUTED_ADDRESS_TEXT, DEADLOCK, DEADLOCK_TEXT, DIVIDE, DIVIDE_TEXT, EIGHT_THREADS,
+    EIGHT_THREADS_TEXT, HELLO, HELLO_TEXT, KEPT_LOCK, KEPT_LOCK_TEXT, LOCKED, LOCKED_TEXT,
+    LOST_UPDATE, LOST_UPDATE_TEXT, MISALIGNED_STORE, MISALIGNED_STORE_TEXT, NO_CODE, NO_CODE_TEXT,
+    Program, RACING_FAULT, RACING_FAULT_TEXT, SEEDED_CUT, SEEDED_CUT_TEXT, STORE_BUFFERING,
+    STORE_BUFFERING_TEXT, STORE_CONDITIONAL_PAIRS, STORE_CONDITIONAL_PAIRS_TEXT, TAPE, TAPE_TEXT,
+    UNKNOWN_CALL, UNKNOWN_CALL_TEXT,
 };
 use guest_programs::texts::{ACCESS_LIMIT, DEMO_FRONT, DEMO_REST, DIVIDE_LEAST, TWELVE_CELLS};
+use odr_io::mem_files::MemFiles;
 use std::alloc::{AllocError, Global};
 use std::process::Abort;
 use std::test::Fail;
@@ -112,7 +117,7 @@ fn texts_are_assembled(rt: HostRuntime) -> Result<(), Fail> {
     meets_all(&rt, rt.alloc(), &ROWS)
 }
 
-/// A text of more bytes than the limit, which would else be read as empty lines.
+/// As many bytes as a text may have, and one more: empty lines, the last of which has no instruction behind it.
 #[test]
 fn text_above_the_limit(rt: HostRuntime) -> Result<(), Fail> {
     let alloc = rt.alloc();
@@ -121,42 +126,40 @@ fn text_above_the_limit(rt: HostRuntime) -> Result<(), Fail> {
         (1_048_577, "odr: text: too large\n"),
     ] {
         let text = vec![in alloc; b'\n'; size]?;
-        let row = Row {
-            held: &[("text", text.as_slice(), &[])],
-            words: &["asm", "text", "elf"],
-            err,
-            ..BAD_TEXT
-        };
-        meets(&rt, alloc, size, &row)?;
+        let mut files = MemFiles::new(alloc, Vec::new(alloc));
+        files.hold("text", text.as_slice())?;
+        answers(&rt, alloc, &mut files, &["asm", "text", "elf"], 5, b"", err)?;
+        assert!(rt; files.look("elf").is_none());
     }
     Ok(())
 }
 
-static PROGRAMS: [Program; 18] = [
-    HELLO,
-    LOST_UPDATE,
-    LOCKED,
-    STORE_BUFFERING,
-    BYTES_MERGE,
-    MISALIGNED_STORE,
-    STORE_CONDITIONAL_PAIRS,
-    DIVIDE,
-    COMPUTED_ADDRESS,
-    RACING_FAULT,
-    DEADLOCK,
-    TAPE,
-    SEEDED_CUT,
-    UNKNOWN_CALL,
-    EIGHT_THREADS,
-    KEPT_LOCK,
-    NO_CODE,
-    BREAKPOINT,
+/// Texts with their programs.
+static PROGRAMS: [(&[u8], Program); 18] = [
+    (HELLO_TEXT, HELLO),
+    (LOST_UPDATE_TEXT, LOST_UPDATE),
+    (LOCKED_TEXT, LOCKED),
+    (STORE_BUFFERING_TEXT, STORE_BUFFERING),
+    (BYTES_MERGE_TEXT, BYTES_MERGE),
+    (MISALIGNED_STORE_TEXT, MISALIGNED_STORE),
+    (STORE_CONDITIONAL_PAIRS_TEXT, STORE_CONDITIONAL_PAIRS),
+    (DIVIDE_TEXT, DIVIDE),
+    (COMPUTED_ADDRESS_TEXT, COMPUTED_ADDRESS),
+    (RACING_FAULT_TEXT, RACING_FAULT),
+    (DEADLOCK_TEXT, DEADLOCK),
+    (TAPE_TEXT, TAPE),
+    (SEEDED_CUT_TEXT, SEEDED_CUT),
+    (UNKNOWN_CALL_TEXT, UNKNOWN_CALL),
+    (EIGHT_THREADS_TEXT, EIGHT_THREADS),
+    (KEPT_LOCK_TEXT, KEPT_LOCK),
+    (NO_CODE_TEXT, NO_CODE),
+    (BREAKPOINT_TEXT, BREAKPOINT),
 ];
 
 /// The file of a program: the file header of hello with the number of segments, their headers, and their bytes.
 fn file_of(alloc: Global, program: &Program) -> Result<Vec<u8>, AllocError> {
-    let text_len = (program.words.len() as u32).wrapping_mul(4);
-    let data_len = program.data.len() as u32;
+    let text_len = program.words.len().min(1000) as u32 * 4;
+    let data_len = program.data.len().min(65536) as u32;
     let segments = if data_len == 0 { 1 } else { 2 };
     let offset: u32 = if data_len == 0 { 84 } else { 116 };
     let mut file = HELLO_FILE[..44].to_vec(alloc)?;
@@ -165,7 +168,7 @@ fn file_of(alloc: Global, program: &Program) -> Result<Vec<u8>, AllocError> {
         file.extend_from_slice(&u32::to_le_bytes(field))?;
     }
     if data_len != 0 {
-        let start = offset.wrapping_add(text_len);
+        let start = offset + text_len;
         for field in [1, start, 0x10_0000, 0x10_0000, data_len, data_len, 6, 4] {
             file.extend_from_slice(&u32::to_le_bytes(field))?;
         }
@@ -177,30 +180,23 @@ fn file_of(alloc: Global, program: &Program) -> Result<Vec<u8>, AllocError> {
     Ok(file)
 }
 
-/// Assembles a text to these bytes.
-fn gives(
-    rt: &impl Abort,
-    alloc: Global,
-    number: usize,
-    text: &[u8],
-    file: &[u8],
-) -> Result<(), Fail> {
-    let line = format!(in alloc; "{} bytes\n", file.len())?;
-    let row = Row {
-        held: &[("text.s", text, &[])],
-        out: line.as_bytes(),
-        saved: ("elf", Some(file)),
-        ..ASSEMBLED
-    };
-    meets(rt, alloc, number, &row)
+/// Assembles a text, which prints this line.
+fn assembled(rt: &impl Abort, alloc: Global, text: &[u8], line: &[u8]) -> Result<MemFiles, Fail> {
+    let mut files = MemFiles::new(alloc, Vec::new(alloc));
+    let lines = bytes_of(alloc, "text.s", text, &[])?;
+    files.hold("text.s", lines.as_slice())?;
+    answers(rt, alloc, &mut files, &WORDS, 0, line, "")?;
+    Ok(files)
 }
 
 #[test]
 fn programs_have_their_files(rt: HostRuntime) -> Result<(), Fail> {
     let alloc = rt.alloc();
-    for (number, program) in PROGRAMS.iter().enumerate() {
+    for (text, program) in &PROGRAMS {
         let file = file_of(alloc, program)?;
-        gives(&rt, alloc, number, program.text, file.as_slice())?;
+        let line = format!(in alloc; "{} bytes\n", file.len())?;
+        let files = assembled(&rt, alloc, text, line.as_bytes())?;
+        assert!(rt; files.look("elf") == Some(file.as_slice()), "{line}");
     }
     Ok(())
 }
@@ -218,19 +214,13 @@ static SIZES: [(&[u8], &[u8], &[u8]); 6] = [
 #[test]
 fn programs_have_their_sizes(rt: HostRuntime) -> Result<(), Fail> {
     let alloc = rt.alloc();
-    for (number, (text, rounds, line)) in SIZES.iter().enumerate() {
+    for (text, rounds, line) in &SIZES {
         let mut whole = text.to_vec(alloc)?;
         if !rounds.is_empty() {
             whole.extend_from_slice(rounds)?;
             whole.extend_from_slice(DEMO_REST)?;
         }
-        let row = Row {
-            held: &[("text.s", whole.as_slice(), &[])],
-            out: line,
-            saved: ("none", None),
-            ..ASSEMBLED
-        };
-        meets(&rt, alloc, number, &row)?;
+        assembled(&rt, alloc, whole.as_slice(), line)?;
     }
     Ok(())
 }

@@ -1,6 +1,6 @@
 //! Recording: a program, a seed and an input go in, a log comes out.
 
-use crate::row::{Held, Row, meets, meets_all};
+use crate::row::{Held, Row, answers, meets_all};
 use guest_programs::logs::{
     BREAKPOINT_LOG, EXTRA_HEADER_FILE, HELLO_FILE, HELLO_LOG, NO_CODE_LOG, SEEDED_CUT_LOG,
     TAPE_LOG, UNKNOWN_CALL_LOG,
@@ -9,6 +9,7 @@ use guest_programs::programs::{
     BREAKPOINT_TEXT, NO_CODE_TEXT, SEEDED_CUT_TEXT, TAPE_TEXT, UNKNOWN_CALL_TEXT,
 };
 use guest_programs::texts::ACCESS_LIMIT;
+use odr_io::mem_files::MemFiles;
 use std::test::Fail;
 
 const HELLO: Held<'static> = ("hello", &HELLO_FILE, &[]);
@@ -183,27 +184,33 @@ fn recordings(rt: HostRuntime) -> Result<(), Fail> {
     meets_all(&rt, rt.alloc(), &ROWS)
 }
 
-/// An input of as many bytes as one may have, and of one more.
+/// An input of one more byte than it may have, and of as many.
 #[test]
 fn input_above_the_limit(rt: HostRuntime) -> Result<(), Fail> {
     let alloc = rt.alloc();
+    let words = ["record", "hello", "log", "--input", "input"];
     let input = vec![in alloc; 0; 1_048_577]?;
-    let held = [HELLO, ("input", input.as_slice(), [].as_slice())];
-    let row = Row {
-        held: &held,
-        words: &["record", "hello", "log", "--input", "input"],
-        status: 5,
-        out: b"",
-        err: "odr: input: too large\n",
-        saved: ("log", None),
-        ..RECORDED
-    };
-    meets(&rt, alloc, 0, &row)?;
-    let held = [HELLO, ("input", &input.as_slice()[1..], [].as_slice())];
-    let row = Row {
-        held: &held,
-        words: row.words,
-        ..RECORDED
-    };
-    meets(&rt, alloc, 1, &row)
+    let mut files = MemFiles::new(alloc, Vec::new(alloc));
+    files.hold("hello", &HELLO_FILE)?;
+    files.hold("input", input.as_slice())?;
+    answers(
+        &rt,
+        alloc,
+        &mut files,
+        &words,
+        5,
+        b"",
+        "odr: input: too large\n",
+    )?;
+    assert!(rt; files.look("log").is_none());
+    files.hold("input", &input.as_slice()[1..])?;
+    answers(
+        &rt,
+        alloc,
+        &mut files,
+        &words,
+        0,
+        b"steps 8, calls 2, end exit 0 0\n",
+        "",
+    )
 }

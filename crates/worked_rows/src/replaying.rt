@@ -1,8 +1,9 @@
 //! Replay: a program, a log and a schedule go in, the guest's output comes out.
 
-use crate::row::{Held, Row, meets, meets_all};
+use crate::row::{Held, Row, answers, meets_all};
 use guest_programs::logs::{DEADLOCK_LOG, HELLO_FILE, HELLO_LOG, LOST_UPDATE_LOG};
 use guest_programs::programs::{DEADLOCK_TEXT, LOST_UPDATE_TEXT};
+use odr_io::mem_files::MemFiles;
 use std::test::Fail;
 
 const HELLO: Held<'static> = ("hello", &HELLO_FILE, &[]);
@@ -183,23 +184,19 @@ fn replays(rt: HostRuntime) -> Result<(), Fail> {
 #[test]
 fn logs_are_bad_at_their_offsets(rt: HostRuntime) -> Result<(), Fail> {
     let alloc = rt.alloc();
+    let words = ["replay", "hello", "hello.log", "schedule"];
     let mut longer = HELLO_LOG.to_vec(alloc)?;
     longer.extend_from_slice(&[0])?;
+    let mut files = MemFiles::new(alloc, Vec::new(alloc));
+    files.hold("hello", &HELLO_FILE)?;
     for size in 0..=46 {
         if size == 45 {
             continue;
         }
         let offset = size.min(45);
         let err = format!(in alloc; "odr: log: bad at {offset}\n")?;
-        let row = Row {
-            held: &[HELLO, ("hello.log", &longer.as_slice()[..size], &[])],
-            status: 4,
-            out: b"",
-            err: err.as_str(),
-            saved: ("out", None),
-            ..REPLAYED
-        };
-        meets(&rt, alloc, size, &row)?;
+        files.hold("hello.log", &longer.as_slice()[..size])?;
+        answers(&rt, alloc, &mut files, &words, 4, b"", err.as_str())?;
     }
     Ok(())
 }

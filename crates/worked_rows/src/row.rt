@@ -37,8 +37,12 @@ pub fn words_of(alloc: Global, words: &[&str]) -> Result<Vec<String>, AllocError
 }
 
 /// The bytes of a file that is held.
-fn bytes_of(alloc: Global, held: Held<'_>) -> Result<Vec<u8>, AllocError> {
-    let (name, bytes, changes) = held;
+pub fn bytes_of(
+    alloc: Global,
+    name: &str,
+    bytes: &[u8],
+    changes: &[(usize, u8)],
+) -> Result<Vec<u8>, AllocError> {
     let mut bytes = bytes.to_vec(alloc)?;
     for (at, byte) in changes {
         if *at < bytes.len() {
@@ -72,8 +76,8 @@ fn run(
 pub fn meets(rt: &impl Abort, alloc: Global, number: usize, row: &Row<'_>) -> Result<(), Fail> {
     let [fails, out_fails, err_fails] = row.failing;
     let mut files = MemFiles::new(alloc, fails.to_vec(alloc)?);
-    for held in row.held {
-        files.hold(held.0, bytes_of(alloc, *held)?.as_slice())?;
+    for (name, bytes, changes) in row.held {
+        files.hold(name, bytes_of(alloc, name, bytes, changes)?.as_slice())?;
     }
     let mut earlier = MemSink::new(alloc, Vec::new(alloc));
     for words in row.before {
@@ -97,5 +101,24 @@ pub fn meets_all(rt: &impl Abort, alloc: Global, rows: &[Row<'_>]) -> Result<(),
     for (number, row) in rows.iter().enumerate() {
         meets(rt, alloc, number, row)?;
     }
+    Ok(())
+}
+
+/// Runs the program on these files, and compares its answer.
+pub fn answers(
+    rt: &impl Abort,
+    alloc: Global,
+    files: &mut MemFiles,
+    words: &[&str],
+    status: u8,
+    out_text: &[u8],
+    err_text: &str,
+) -> Result<(), Fail> {
+    let mut out = MemSink::new(alloc, Vec::new(alloc));
+    let mut err = MemSink::new(alloc, Vec::new(alloc));
+    let answer = run(alloc, words, files, &mut out, &mut err)?;
+    assert_eq!(rt; answer, status);
+    assert_eq!(rt; out.bytes(), out_text);
+    assert_eq!(rt; err.bytes(), err_text.as_bytes());
     Ok(())
 }
