@@ -1,8 +1,8 @@
 -- What a call leaves, by what the work before its report left.
-use Rattle.std.specs.Prelude.{◌≡◌, ◌≢◌, ◌⊎◌, ℕ, Bool, true, false, nat_eq, length, List, [], Option, Some, None, IfSome, if◌then◌else◌, refl}
+use Rattle.std.specs.Prelude.{◌≡◌, ◌≢◌, ◌⊎◌, ℕ, Bool, true, false, nat_eq, length, List, [], Option, Some, None, IfSome, Result, Err, if◌then◌else◌, refl}
 use Rattle.std.proofs.Common.{sym, ◌∙◌, ap, subst, inl, inr}
 use Rattle.std.specs.Io.KnownBytes.{append_known}
-use Rattle.odr_io.specs.Outside.{Held, held_at}
+use Rattle.odr_io.specs.Outside.{Held, held_at, Holds}
 use Rattle.elf_image.specs.Layout.{Layout}
 use Rattle.odr_log.specs.declared.log.Log.{Log}
 use Rattle.odr_log.specs.Tape.{output_of}
@@ -19,11 +19,14 @@ use Rattle.odr_top.specs.declared.refusal.Refusal.{Refusal}
 use Rattle.odr_top.specs.declared.refusal.Refusal.TheVariants as refusal
 use Rattle.odr_top.specs.Verdict.{Verdict, BadWords, NotBuilt, NoFile, BadElf, BadLog, LogTooLarge, BadLine, UnknownName, TextTooLarge, InputTooLarge, Differs, Inferred, Assembled, Recorded, Replayed, status_of, out_text, saved_text, memory_line}
 use Rattle.odr_top.specs.Inputs.{IsProgram, NoProgram, IsRecording, NoRecording, IsScheduleFile, NoScheduleFile, NoInput, IsSource, NoSource, fault_verdict, RefusesBytes, FromInput}
-use Rattle.odr_top.specs.Owes.{by_difference, by_replay, only_schedule, inference, Owes, OwesWords, Answers, AnswersWords}
+use Rattle.odr_top.specs.Owes.{by_difference, by_replay, only_schedule, inference, Owes, OwesWords, Answers, AnswersWords, saves}
 use Rattle.odr_top.specs.Refused.{verdict_of, line_of, exit_of, IsOwed}
 use Rattle.odr_top.specs.Report.{Reported, PartOfLine}
+use Rattle.odr_top.specs.declared.done.NamedFile.{NamedFile}
+use Rattle.odr_top.specs.declared.done.Done.{Done}
+use Rattle.odr_top.specs.Done.{IsFileOf, HasSaved, Prepared}
 use Rattle.odr_top.specs.Loaded.{GivesTold, TapeTold}
-use Rattle.odr_top.specs.Answer.{Concluded, LeavesText, IsExplained, FoundRun, InferredRun, IsAssembled, MadeProgram, Assembled as AssembledProgram, IsRecorded, SavedLog, Recorded as RecordedRun, IsReplayed, WroteOutput, Replayed as ReplayedRun, PartOfOut, IsErrLine, CutShort}
+use Rattle.odr_top.specs.Answer.{Concluded, LeavesText, HasSavedWhole, IsExplained, FoundRun, InferredRun, IsAssembled, MadeProgram, Assembled as AssembledProgram, IsRecorded, SavedLog, Recorded as RecordedRun, IsReplayed, WroteOutput, Replayed as ReplayedRun, PartOfOut, IsErrLine, CutShort}
 
 -- ---- reports
 
@@ -283,7 +286,7 @@ owed_replay (Some held) second third elf log sched image l schedule v program sa
 
 replay_answers : (elf log sched : List ℕ) (l : Log) (place : Option ℕ) → Answers (job.Replay elf log sched) (by_replay l place)
 replay_answers elf log sched l None = tt
-replay_answers elf log sched l (Some place) = tt
+replay_answers elf log sched l (Some place) = inr tt
 
 -- a refusal by the replay
 pub replay_refused : (told second third : Option Held) (elf log sched : List ℕ) (image : Layout) (l : Log) (schedule : List ℕ) (o : Option Verdict)
@@ -433,3 +436,36 @@ two_is_no_job before after (Some j) ob oa eb ea end = absurd (no_other_two j end
 pub no_job_is_two : (before after : Option Held) (words : Option Job) (status : ℕ) (ob oa eb ea : Option (List ℕ)) → Concluded before after words status ob oa eb ea → words ≡ None → status ≡ 2
 no_job_is_two before after None status ob oa eb ea end e = end.status_is ∙ ap status_of end.answers
 no_job_is_two before after (Some j) status ob oa eb ea end e = absurd cc
+
+-- ---- faults
+
+-- a refusal that has a verdict is no fault
+pub not_device : {T : Type 0} (given : Refusal) (verdict : Verdict) → verdict_of given ≡ Some verdict
+    → (let left : Result T Refusal = Err given in let right : Result T Refusal = Err refusal.Device in left ≡ right) → ⊥
+not_device refusal.Device verdict of e = absurd (let f : None ≡ Some verdict = of in cc)
+not_device refusal.Memory verdict of e = absurd (let f : None ≡ Some verdict = of in cc)
+not_device refusal.BadWords verdict of e = cc
+not_device refusal.NotBuilt verdict of e = cc
+not_device (refusal.NoFile name) verdict of e = cc
+not_device (refusal.BadElf failed) verdict of e = cc
+not_device (refusal.BadLog offset) verdict of e = cc
+not_device refusal.LogTooLarge verdict of e = cc
+not_device (refusal.BadLine line) verdict of e = cc
+not_device (refusal.UnknownName line) verdict of e = cc
+not_device refusal.TextTooLarge verdict of e = cc
+not_device refusal.InputTooLarge verdict of e = cc
+not_device (refusal.Differs place) verdict of e = cc
+
+-- ---- what was saved
+
+leaves_of : (before after : Option Held) (name text : Option (List ℕ)) (file : Option NamedFile) → IsFileOf name text file → HasSaved before after file → LeavesText before after name text
+leaves_of before after name None None is saved = saved
+leaves_of before after name None (Some file) is saved = absurd is
+leaves_of before after name (Some text) None is saved = absurd is
+leaves_of before after None (Some text) (Some file) is saved = absurd is
+leaves_of before after (Some name) (Some text) (Some file) is saved =
+    subst (λ (n : List ℕ). Holds after n text) is.0 (subst (λ (t : List ℕ). Holds after file.name.now t) is.1 saved)
+
+pub saved_whole : (before after : Option Held) (j : Job) (done : Done) → Prepared before j done → HasSaved before after done.file → HasSavedWhole before after (Some j)
+saved_whole before after j done prepared saved =
+    (prepared.verdict, prepared.finishes, leaves_of before after (saves j) (saved_text prepared.verdict) done.file prepared.file saved)

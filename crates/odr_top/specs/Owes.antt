@@ -68,14 +68,22 @@ OwesWords held (Some j) verdict = Owes held j verdict
 
 -- ---- whatever the store tells
 
+-- what a file is loaded as
+pub data Kind : Type 0 where
+  Program : Kind
+  Recording : Kind
+  Schedule : Kind
+  Input : Kind
+  Source : Kind
+
 -- the files that a job loads, in its order
-abbrev pub loads : Job → List (List ℕ)
-loads (job.Infer elf log out steps) = elf ∷ log ∷ []
-loads (job.Asm text elf) = text ∷ []
-loads (job.Record elf log seed limit None) = elf ∷ []
-loads (job.Record elf log seed limit (Some input)) = elf ∷ input ∷ []
+abbrev pub loads : Job → List (Kind × List ℕ)
+loads (job.Infer elf log out steps) = (Program, elf) ∷ (Recording, log) ∷ []
+loads (job.Asm text elf) = (Source, text) ∷ []
+loads (job.Record elf log seed limit None) = (Program, elf) ∷ []
+loads (job.Record elf log seed limit (Some input)) = (Program, elf) ∷ (Input, input) ∷ []
 loads (job.Check elf log cert) = []
-loads (job.Replay elf log sched) = elf ∷ log ∷ sched ∷ []
+loads (job.Replay elf log sched) = (Program, elf) ∷ (Recording, log) ∷ (Schedule, sched) ∷ []
 loads (job.Debug elf log sched) = []
 loads (job.Demo number) = []
 
@@ -89,9 +97,15 @@ saves (job.Replay elf log sched) = None
 saves (job.Debug elf log sched) = None
 saves (job.Demo number) = None
 
-abbrev pub IsOneOf : List ℕ → List (List ℕ) → Type 0
+-- the name is that of a file among these
+abbrev pub IsOneOf : List ℕ → List (Kind × List ℕ) → Type 0
 IsOneOf name [] = ⊥
-IsOneOf name (first ∷ names) = (name ≡ first) ⊎ IsOneOf name names
+IsOneOf name (file ∷ files) = (name ≡ file.1) ⊎ IsOneOf name files
+
+-- a file among these is loaded as this
+abbrev pub HasKind : Kind → List (Kind × List ℕ) → Type 0
+HasKind kind [] = ⊥
+HasKind kind (file ∷ files) = (kind ≡ file.0) ⊎ HasKind kind files
 
 abbrev pub IsInference : Job → Type 0
 IsInference (job.Infer elf log out steps) = Unit {0}
@@ -109,19 +123,25 @@ abbrev pub IsReplay : Job → Type 0
 IsReplay (job.Replay elf log sched) = Unit {0}
 IsReplay other = ⊥
 
--- a verdict that a job can have
+abbrev pub IsNotBuilt : Job → Type 0
+IsNotBuilt (job.Check elf log cert) = Unit {0}
+IsNotBuilt (job.Debug elf log sched) = Unit {0}
+IsNotBuilt (job.Demo number) = Unit {0}
+IsNotBuilt other = ⊥
+
+-- a verdict that a job can have: a refusal of a file that it loads, or an end of its own
 abbrev pub Answers : Job → Verdict → Type 0
 Answers j BadWords = ⊥
-Answers j NotBuilt = Unit {0}
+Answers j NotBuilt = IsNotBuilt j ⊎ IsInference j
 Answers j (NoFile name) = IsOneOf name (loads j)
-Answers j (BadElf failed) = Unit {0}
-Answers j (BadLog offset) = Unit {0}
-Answers j LogTooLarge = Unit {0}
-Answers j (BadLine line) = Unit {0}
-Answers j (UnknownName line) = Unit {0}
-Answers j TextTooLarge = Unit {0}
-Answers j InputTooLarge = Unit {0}
-Answers j (Differs place) = Unit {0}
+Answers j (BadElf failed) = HasKind Program (loads j)
+Answers j (BadLog offset) = HasKind Recording (loads j)
+Answers j LogTooLarge = HasKind Recording (loads j)
+Answers j (BadLine line) = HasKind Schedule (loads j) ⊎ HasKind Source (loads j)
+Answers j (UnknownName line) = HasKind Source (loads j)
+Answers j TextTooLarge = HasKind Schedule (loads j) ⊎ HasKind Source (loads j)
+Answers j InputTooLarge = HasKind Input (loads j)
+Answers j (Differs place) = IsInference j ⊎ IsReplay j
 Answers j (Inferred schedule) = IsInference j
 Answers j (Assembled file) = IsAssembly j
 Answers j (Recorded log) = IsRecord j

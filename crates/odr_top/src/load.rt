@@ -3,6 +3,7 @@ ghost use Rattle.odr_io.specs.Outside.{Rose};
 ghost use Rattle.odr_log.specs.Grammar.{IsValid};
 ghost use Rattle.odr_top.specs.Inputs.{IsProgram, NoProgram, IsRecording, NoRecording, IsScheduleFile, NoScheduleFile, IsInput, NoInput, IsSource, NoSource};
 ghost use Rattle.elf_image.specs.Fault.{check_of};
+ghost use Rattle.odr_top.specs.Owes.{Kind};
 ghost use Rattle.odr_top.specs.Loaded.{Found, Turned, GivesTold, RefusesTold, RefusesContent, TapeTold, RefusesTape};
 
 use crate::refusal::Refusal;
@@ -88,7 +89,7 @@ fn check_of(fault: ElfFault) -> Option<Check>
 fn image_in<'a>(alloc: Global, bytes: &[u8]) -> Result<Image, Refusal<'a>>
     requires { length bytes.now ≤ 16777216 }
     ensures found { IfOk result (IsProgram bytes.now) }
-    ensures refused { IfErr result (RefusesContent NoProgram bytes.now) }
+    ensures refused { IfErr result (RefusesContent Kind.Program NoProgram bytes.now) }
     ensures no_fault { result ≢ Err Refusal.Device }
 {
     match Image::read(alloc, bytes) {
@@ -103,7 +104,7 @@ fn image_in<'a>(alloc: Global, bytes: &[u8]) -> Result<Image, Refusal<'a>>
 /// The valid log that bytes spell.
 fn log_in<'a>(alloc: Global, bytes: &[u8]) -> Result<Log, Refusal<'a>>
     ensures found { IfOk result (IsRecording bytes.now) }
-    ensures refused { IfErr result (RefusesContent NoRecording bytes.now) }
+    ensures refused { IfErr result (RefusesContent Kind.Recording NoRecording bytes.now) }
     ensures no_fault { result ≢ Err Refusal.Device }
 {
     match read_log(alloc, bytes) {
@@ -118,7 +119,7 @@ fn log_in<'a>(alloc: Global, bytes: &[u8]) -> Result<Log, Refusal<'a>>
 fn schedule_in<'a>(alloc: Global, text: &[u8]) -> Result<Schedule, Refusal<'a>>
     requires { length text.now ≤ 67108864 }
     ensures found { IfOk result (IsScheduleFile text.now) }
-    ensures refused { IfErr result (RefusesContent NoScheduleFile text.now) }
+    ensures refused { IfErr result (RefusesContent Kind.Schedule NoScheduleFile text.now) }
     ensures no_fault { result ≢ Err Refusal.Device }
 {
     match read_schedule(alloc, text) {
@@ -132,7 +133,7 @@ fn schedule_in<'a>(alloc: Global, text: &[u8]) -> Result<Schedule, Refusal<'a>>
 fn program_in<'a>(alloc: Global, text: &[u8]) -> Result<Bytes, Refusal<'a>>
     requires { length text.now ≤ 1048576 }
     ensures found { IfOk result (IsSource text.now) }
-    ensures refused { IfErr result (RefusesContent NoSource text.now) }
+    ensures refused { IfErr result (RefusesContent Kind.Source NoSource text.now) }
     ensures no_fault { result ≢ Err Refusal.Device }
 {
     match assemble(alloc, text) {
@@ -151,7 +152,7 @@ pub fn load_image<'a, F: Files>(
     name: &'a str,
 ) -> Result<Image, Refusal<'a>>
     ensures found { IfOk result (GivesTold IsProgram (F.held files.old) name.now) }
-    ensures refused { IfErr result (RefusesTold NoProgram (F.held files.old) name.now) }
+    ensures refused { IfErr result (RefusesTold Kind.Program NoProgram (F.held files.old) name.now) }
     ensures kept { F.held files.new ≡ F.held files.old }
     ensures failed { IsErrOf result Refusal.Device → Rose (F.faults files.old) (F.faults files.new) }
     ensures steady { result ≢ Err Refusal.Device → F.faults files.new ≡ F.faults files.old }
@@ -169,7 +170,7 @@ pub fn load_log<'a, F: Files>(
 ) -> Result<Log, Refusal<'a>>
     ensures found { IfOk result (GivesTold IsRecording (F.held files.old) name.now) }
     ensures valid { IfOk result IsValid }
-    ensures refused { IfErr result (RefusesTold NoRecording (F.held files.old) name.now) }
+    ensures refused { IfErr result (RefusesTold Kind.Recording NoRecording (F.held files.old) name.now) }
     ensures kept { F.held files.new ≡ F.held files.old }
     ensures failed { IsErrOf result Refusal.Device → Rose (F.faults files.old) (F.faults files.new) }
     ensures steady { result ≢ Err Refusal.Device → F.faults files.new ≡ F.faults files.old }
@@ -185,7 +186,7 @@ pub fn load_schedule<'a, F: Files>(
     name: &'a str,
 ) -> Result<Schedule, Refusal<'a>>
     ensures found { IfOk result (GivesTold IsScheduleFile (F.held files.old) name.now) }
-    ensures refused { IfErr result (RefusesTold NoScheduleFile (F.held files.old) name.now) }
+    ensures refused { IfErr result (RefusesTold Kind.Schedule NoScheduleFile (F.held files.old) name.now) }
     ensures kept { F.held files.new ≡ F.held files.old }
     ensures failed { IsErrOf result Refusal.Device → Rose (F.faults files.old) (F.faults files.new) }
     ensures steady { result ≢ Err Refusal.Device → F.faults files.new ≡ F.faults files.old }
@@ -201,7 +202,7 @@ fn load_input<'a, F: Files>(
     name: &'a str,
 ) -> Result<Vec<u8>, Refusal<'a>>
     ensures found { IfOk result (λ tape. GivesTold IsInput (F.held files.old) name.now tape.items) }
-    ensures refused { IfErr result (RefusesTold NoInput (F.held files.old) name.now) }
+    ensures refused { IfErr result (RefusesTold Kind.Input NoInput (F.held files.old) name.now) }
     ensures kept { F.held files.new ≡ F.held files.old }
     ensures failed { IsErrOf result Refusal.Device → Rose (F.faults files.old) (F.faults files.new) }
     ensures steady { result ≢ Err Refusal.Device → F.faults files.new ≡ F.faults files.old }
@@ -235,7 +236,7 @@ pub fn load_source<'a, F: Files>(
     name: &'a str,
 ) -> Result<Bytes, Refusal<'a>>
     ensures found { IfOk result (GivesTold IsSource (F.held files.old) name.now) }
-    ensures refused { IfErr result (RefusesTold NoSource (F.held files.old) name.now) }
+    ensures refused { IfErr result (RefusesTold Kind.Source NoSource (F.held files.old) name.now) }
     ensures kept { F.held files.new ≡ F.held files.old }
     ensures failed { IsErrOf result Refusal.Device → Rose (F.faults files.old) (F.faults files.new) }
     ensures steady { result ≢ Err Refusal.Device → F.faults files.new ≡ F.faults files.old }

@@ -1,6 +1,7 @@
 ghost use Rattle.std.specs.Prelude.{◌≡◌, ◌≢◌, IfOk, IfErr, IsErrOf};
 ghost use Rattle.odr_io.specs.Outside.{Rose};
 ghost use Rattle.odr_words.specs.Jobs.{IsWithinLimits};
+ghost use Rattle.odr_top.specs.Owes.{IsNotBuilt};
 ghost use Rattle.odr_top.specs.Refused.{Justified};
 ghost use Rattle.odr_top.specs.Done.{Prepared};
 
@@ -21,6 +22,7 @@ pub fn prepare<'a, F: Files>(
     job: &'a Job,
 ) -> Result<Done<'a>, Refusal<'a>>
     requires { IsWithinLimits job.now }
+    ensures not_built { IsNotBuilt job.now → (result ≡ Err Refusal.NotBuilt) × (files.new ≡ files.old) }
     ensures done { IfOk result (Prepared (F.held files.old) job.now) }
     ensures refused { IfErr result (Justified (F.held files.old) job.now) }
     ensures kept { F.held files.new ≡ F.held files.old }

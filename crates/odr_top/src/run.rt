@@ -3,7 +3,7 @@ ghost use Rattle.std.specs.Io.KnownBytes.{append_known};
 ghost use Rattle.odr_io.specs.Outside.{Rose};
 ghost use Rattle.odr_top.specs.Verdict.{Verdict, status_of, device_line};
 ghost use Rattle.odr_words.specs.Jobs.{IsWithinLimits};
-ghost use Rattle.odr_top.specs.Owes.{job_in, OwesWords};
+ghost use Rattle.odr_top.specs.Owes.{job_in, OwesWords, IsNotBuilt};
 ghost use Rattle.odr_top.specs.Refused.{verdict_of, Justified};
 ghost use Rattle.odr_top.specs.Report.{IsCut};
 ghost use Rattle.odr_top.specs.Answer.{KeepsInputs, Concluded, InferredRun, Assembled, Recorded, Replayed, MayFinish, HasSavedWhole, PartOfOut, CutShort, Finished};
@@ -31,6 +31,7 @@ fn work<'a, F: Files, O: Sink>(
     out: &mut O,
 ) -> Result<(), Refusal<'a>>
     requires { IsWithinLimits job.now }
+    ensures not_built { IsNotBuilt job.now → (result ≡ Err Refusal.NotBuilt) × (files.new ≡ files.old) × (out.new ≡ out.old) }
     ensures finished { OnOk result (Finished (F.held files.old) (F.held files.new) (Some job.now) (O.written out.old) (O.written out.new)) }
     ensures refused { IfErr result (Justified (F.held files.old) job.now) }
     ensures untouched { IfErr result (λ refusal. IfSome (verdict_of refusal) (λ _. (F.held files.new ≡ F.held files.old) × (out.new ≡ out.old))) }
@@ -56,6 +57,7 @@ fn answer<F: Files, O: Sink, E: Sink>(
     err: &mut E,
 ) -> u8
     requires { IsWithinLimits job.now }
+    ensures not_built { IsNotBuilt job.now → (files.new ≡ files.old) × (out.new ≡ out.old) × (result ≡ 6 → Rose (E.faults err.old) (E.faults err.new)) }
     ensures causes { result ≢ 1 → result ≢ 6 → Concluded (F.held files.old) (F.held files.new) (Some job.now) result (O.written out.old) (O.written out.new) (E.written err.old) (E.written err.new) }
     ensures nothing_failed { result ≢ 1 → result ≢ 6 → (F.faults files.new ≡ F.faults files.old) × (O.faults out.new ≡ O.faults out.old) × (E.faults err.new ≡ E.faults err.old) }
     ensures device { result ≡ 6 → Rose (F.faults files.old) (F.faults files.new) ⊎ (Rose (O.faults out.old) (O.faults out.new) ⊎ Rose (E.faults err.old) (E.faults err.new)) }
@@ -83,6 +85,7 @@ fn answer_words<F: Files, O: Sink, E: Sink>(
 ) -> u8
     ensures causes { result ≢ 1 → result ≢ 6 → Concluded (F.held files.old) (F.held files.new) (job_in words.now) result (O.written out.old) (O.written out.new) (E.written err.old) (E.written err.new) }
     ensures no_job { job_in words.now ≡ None → (files.new ≡ files.old) × (out.new ≡ out.old) × (result ≡ 6 → Rose (E.faults err.old) (E.faults err.new)) }
+    ensures not_built { IfSome (job_in words.now) (λ job. IsNotBuilt job → (files.new ≡ files.old) × (out.new ≡ out.old) × (result ≡ 6 → Rose (E.faults err.old) (E.faults err.new))) }
     ensures nothing_failed { result ≢ 1 → result ≢ 6 → (F.faults files.new ≡ F.faults files.old) × (O.faults out.new ≡ O.faults out.old) × (E.faults err.new ≡ E.faults err.old) }
     ensures device { result ≡ 6 → Rose (F.faults files.old) (F.faults files.new) ⊎ (Rose (O.faults out.old) (O.faults out.new) ⊎ Rose (E.faults err.old) (E.faults err.new)) }
     ensures device_line { result ≡ 6 → (E.written err.new ≡ append_known (E.written err.old) device_line) ⊎ Rose (E.faults err.old) (E.faults err.new) }
@@ -139,6 +142,9 @@ pub fn odr_run<F: Files, S: Source, O: Sink, E: Sink>(
     ensures complete { IfSome (F.held files.old) (λ held. (verdict : Verdict) → OwesWords held (job_in words.now) verdict → (result ≡ status_of verdict) ⊎ IsCut result) }
     ensures bad_words { (result ≡ 2 → job_in words.now ≡ None) × (job_in words.now ≡ None → (result ≡ 2) ⊎ IsCut result) }
     ensures no_job { job_in words.now ≡ None → (files.new ≡ files.old) × (out.new ≡ out.old) × (result ≡ 6 → Rose (E.faults err.old) (E.faults err.new)) }
+
+    // A job that is not built is refused before anything is loaded.
+    ensures not_built { IfSome (job_in words.now) (λ job. IsNotBuilt job → (files.new ≡ files.old) × (out.new ≡ out.old) × (result ≡ 6 → Rose (E.faults err.old) (E.faults err.new))) }
     ensures nothing_failed { result ≢ 1 → result ≢ 6 → (F.faults files.new ≡ F.faults files.old) × (O.faults out.new ≡ O.faults out.old) × (E.faults err.new ≡ E.faults err.old) }
 
     // 6 comes only where a count of faults rose, and with its line unless that failed.

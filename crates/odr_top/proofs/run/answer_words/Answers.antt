@@ -2,7 +2,8 @@ use Rattle.std.proofs.Common.{◌≡◌, ◌⊎◌, Option, None, inl, refl, sym
 use Rattle.odr_io.specs.Outside.{Rose}
 use Rattle.odr_words.specs.declared.job.Job.{Job}
 use Rattle.odr_top.specs.declared.refusal.Refusal.TheVariants as refusal
-use Rattle.odr_top.specs.Owes.{job_in}
+use Rattle.std.specs.Option.{IfSome}
+use Rattle.odr_top.specs.Owes.{job_in, IsNotBuilt}
 use Rattle.odr_top.specs.Report.{IsCut}
 use Rattle.odr_top.specs.Answer.{CutShort, HasSavedWhole}
 use Rattle.odr_top.proofs.Ends.{cut_short, bad_words_owed}
@@ -32,3 +33,8 @@ returns-in-Err-Bad-clause-cut_short g c =
     cut_short (g.F.Files.held c.args.files.now) (job_in c.args.words.now) refusal.BadWords (g.O.Sink.written c.args.out.now) (g.O.Sink.written c.args.out.now)
     (g.E.Sink.written c.args.err.now) (g.E.Sink.written c.report.new.err) (bad_words_owed (g.F.Files.held c.args.files.now) (job_in c.args.words.now) none)
     (inl refl) (c.report.ensures.cut cut)
+
+pub returns-in-Ok-clause-not_built : goal.returns-in-Ok-clause-not_built
+returns-in-Ok-clause-not_built g c =
+    subst (λ (o : Option Job). IfSome o (λ (j : Job). IsNotBuilt j → (c.answer.new.files ≡ c.args.files.now) × (c.answer.new.out ≡ c.args.out.now)
+    × (c.answer.result ≡ 6 → Rose (g.E.Sink.faults c.args.err.now) (g.E.Sink.faults c.answer.new.err)))) (sym c.in-Ok.ensures.job) c.answer.ensures.not_built
