@@ -10,6 +10,8 @@ mod files;
 #[cfg(test)]
 mod instructions;
 #[cfg(test)]
+mod machine;
+#[cfg(test)]
 mod reservations;
 #[cfg(test)]
 mod runs;

@@ -1,8 +1,9 @@
-//! Runs of the plain machine over whole programs, and the logs that they have. Each program shows one thing
-//! that a schedule may decide.
+//! Runs of the plain machine and of the machine in place over whole programs, and the logs that they have. Each
+//! program shows one thing that a schedule may decide.
 
 use crate::files::{TEXT, changed, program_file};
-use crate::stepping::{is_same, step_of};
+use crate::machine::{compare, step_both};
+use crate::stepping::is_same;
 use Outcome::{Differs, Has};
 use elf_image::image::Image;
 use guest_programs::logs::{
@@ -16,8 +17,10 @@ use guest_programs::programs::{
     LOCKED, LOST_UPDATE, MISALIGNED_STORE, NO_CODE, Program, RACING_FAULT, SEEDED_CUT,
     STORE_BUFFERING, STORE_CONDITIONAL_PAIRS, TAPE, UNKNOWN_CALL,
 };
+use guest_machine::machine::Machine;
 use odr_list::bytes::Bytes;
 use odr_list::list::List;
+use odr_log::log::Log;
 use odr_log::{read_log, tape};
 use rv_model::plain;
 use rv_model::run::{first_difference, log_of};
@@ -277,27 +280,30 @@ fn steps_of(alloc: Global, runs: &[(u8, usize)]) -> Result<Vec<u8>, AllocError> 
     Ok(steps)
 }
 
-/// A run: the state that it ends in, and its events.
+/// A run: both machines where it ends, and its events.
 #[derive(Drop)]
-struct Ran {
+struct Ran<'a> {
+    machine: Machine<'a>,
     state: State,
     events: List<Event>,
 }
 
-/// The run of a schedule over an input.
-fn run(
+/// The run of a schedule over an input, on both machines.
+fn run<'a>(
     rt: &impl Abort,
     alloc: Global,
-    image: &Image,
+    image: &'a Image,
     input: Vec<u8>,
     schedule: &[u8],
-) -> Result<Ran, Fail> {
-    let mut state = plain::opening(alloc, image, Bytes::of(input))?;
+) -> Result<Ran<'a>, Fail> {
+    let tape = Bytes::from_slice(alloc, input.as_slice())?;
+    let mut state = plain::opening(alloc, image, tape)?;
+    let mut machine = Machine::load(alloc, image, input)?;
     let mut events = List::new(alloc);
     for thread in schedule {
         let before = state.core.threads.as_slice().get(*thread as usize);
         let at = before.map_or(0, |before| before.retired);
-        let stepped = step_of(rt, alloc, image, state, *thread)?;
+        let stepped = step_both(rt, alloc, image, &mut machine, state, *thread)?;
         events.push(Event {
             thread: *thread,
             at,
@@ -305,7 +311,11 @@ fn run(
         })?;
         state = stepped.state;
     }
-    Ok(Ran { state, events })
+    Ok(Ran {
+        machine,
+        state,
+        events,
+    })
 }
 
 /// The threads that are enabled.
@@ -317,6 +327,21 @@ fn enabled_in(alloc: Global, image: &Image, state: &State) -> Result<Vec<u8>, Fa
         }
     }
     Ok(threads)
+}
+
+/// Compares the machine in place where a run ends with the run's log, and the threads that are enabled.
+fn ends_as(rt: &impl Abort, machine: &Machine<'_>, log: &Log, enabled: &[u8]) {
+    assert_eq!(rt; machine.end(), log.end);
+    let mut list = [0; 8];
+    let count = machine.enabled_list(&mut list);
+    assert_eq!(rt; list.get(..count), Some(enabled));
+    let threads = log.threads.as_slice();
+    assert_eq!(rt; machine.threads() as usize, threads.len());
+    for (tid, thread) in threads.iter().enumerate() {
+        let tid = tid as u8;
+        assert!(rt; tid < machine.threads());
+        assert_eq!(rt; machine.retired(tid), thread.steps, "thread {tid}");
+    }
 }
 
 /// Runs a row's schedule, and compares what comes of it.
@@ -338,6 +363,8 @@ fn meets(rt: &impl Abort, alloc: Global, image: &Image, log: &[u8], row: Row) ->
             assert!(rt; made.same(&log), "{made:?}");
             let threads = enabled_in(alloc, image, &ran.state)?;
             assert_eq!(rt; threads.as_slice(), enabled, "{changes:?}, {runs:?}");
+            compare(rt, image, &ran.machine, &ran.state);
+            ends_as(rt, &ran.machine, &log, enabled);
         }
     }
     Ok(())
