@@ -12,6 +12,8 @@ mod instructions;
 #[cfg(test)]
 mod machine;
 #[cfg(test)]
+mod machine_edges;
+#[cfg(test)]
 mod reservations;
 #[cfg(test)]
 mod runs;

@@ -10,8 +10,8 @@ use std::alloc::Global;
 use std::process::Abort;
 use std::test::Fail;
 
-/// The highest addresses of the stacks of the threads, where each is writable, and the first past them.
-const STACK_TOPS: [u32; 3] = [0x7000_3ff0, 0x7001_3ff0, 0x7007_3ff0];
+/// Sixteen bytes below the tops of three stacks.
+const STACK_ENDS: [u32; 3] = [0x7000_3ff0, 0x7001_3ff0, 0x7007_3ff0];
 
 /// Whether a note is that of the plain machine.
 fn is_same_note(note: &Note, shown: &Shown) -> bool {
@@ -95,8 +95,8 @@ pub fn compare(rt: &impl Abort, image: &Image, machine: &Machine<'_>, state: &St
         assert_eq!(rt; machine.owner(mutex as u8), *owner, "mutex {mutex}");
     }
     compare_bytes(rt, image, machine, state, (DATA, 260));
-    for top in STACK_TOPS {
-        compare_bytes(rt, image, machine, state, (top, 20));
+    for start in STACK_ENDS {
+        compare_bytes(rt, image, machine, state, (start, 20));
     }
     assert_eq!(rt; machine.halted(), state.core.halt.is_some());
 }

@@ -6,6 +6,7 @@ use crate::machine::{compare, step_both};
 use crate::stepping::is_same;
 use Outcome::{Differs, Has};
 use elf_image::image::Image;
+use guest_machine::machine::Machine;
 use guest_programs::logs::{
     BREAKPOINT_LOG, BYTES_MERGE_LOG, COMPUTED_ADDRESS_LOG, DEADLOCK_LOG, DIVIDE_LOG,
     EIGHT_THREADS_LOG, HELLO_FILE, HELLO_LOG, KEPT_LOCK_LOG, LOCKED_LOG, LOST_UPDATE_LOG,
@@ -17,7 +18,6 @@ use guest_programs::programs::{
     LOCKED, LOST_UPDATE, MISALIGNED_STORE, NO_CODE, Program, RACING_FAULT, SEEDED_CUT,
     STORE_BUFFERING, STORE_CONDITIONAL_PAIRS, TAPE, UNKNOWN_CALL,
 };
-use guest_machine::machine::Machine;
 use odr_list::bytes::Bytes;
 use odr_list::list::List;
 use odr_log::log::Log;
@@ -271,7 +271,7 @@ static GUESTS: [Guest; 19] = [
 ];
 
 /// Steps of a schedule from its runs.
-fn steps_of(alloc: Global, runs: &[(u8, usize)]) -> Result<Vec<u8>, AllocError> {
+pub fn steps_of(alloc: Global, runs: &[(u8, usize)]) -> Result<Vec<u8>, AllocError> {
     let mut steps = Vec::new(alloc);
     for (thread, count) in runs {
         let longer = steps.len().saturating_add(*count);
@@ -282,14 +282,14 @@ fn steps_of(alloc: Global, runs: &[(u8, usize)]) -> Result<Vec<u8>, AllocError> 
 
 /// A run: both machines where it ends, and its events.
 #[derive(Drop)]
-struct Ran<'a> {
-    machine: Machine<'a>,
-    state: State,
-    events: List<Event>,
+pub struct Ran<'a> {
+    pub machine: Machine<'a>,
+    pub state: State,
+    pub events: List<Event>,
 }
 
 /// The run of a schedule over an input, on both machines.
-fn run<'a>(
+pub fn run<'a>(
     rt: &impl Abort,
     alloc: Global,
     image: &'a Image,
