@@ -55,9 +55,10 @@ fn registers_of(rt: &impl Abort, machine: &Machine<'_>, tid: u8) -> [u32; 32] {
 /// Compares the threads of both machines.
 fn compare_threads(rt: &impl Abort, machine: &Machine<'_>, threads: &[Thread]) {
     assert_eq!(rt; machine.threads() as usize, threads.len());
-    for (tid, thread) in threads.iter().enumerate() {
-        let tid = tid as u8;
-        assert!(rt; tid < machine.threads());
+    for tid in 0..machine.threads() {
+        let Some(thread) = threads.get(tid as usize) else {
+            return;
+        };
         let local = Local {
             pc: machine.pc(tid),
             registers: registers_of(rt, machine, tid),

@@ -337,10 +337,9 @@ fn ends_as(rt: &impl Abort, machine: &Machine<'_>, log: &Log, enabled: &[u8]) {
     assert_eq!(rt; list.get(..count), Some(enabled));
     let threads = log.threads.as_slice();
     assert_eq!(rt; machine.threads() as usize, threads.len());
-    for (tid, thread) in threads.iter().enumerate() {
-        let tid = tid as u8;
-        assert!(rt; tid < machine.threads());
-        assert_eq!(rt; machine.retired(tid), thread.steps, "thread {tid}");
+    for tid in 0..machine.threads() {
+        let steps = threads.get(tid as usize).map(|thread| thread.steps);
+        assert_eq!(rt; Some(machine.retired(tid)), steps, "thread {tid}");
     }
 }
 
