@@ -48,7 +48,7 @@ const DEVICE: Row<'static> = Row {
     ..ASSEMBLED
 };
 
-static ROWS: [Row<'static>; 13] = [
+static ROWS: [Row<'static>; 15] = [
     ASSEMBLED,
     // No further call is made: one would fail.
     Row {
@@ -78,6 +78,26 @@ static ROWS: [Row<'static>; 13] = [
     Row {
         held: &[("text.s", b"j away; nothing; ecall;", &[])],
         err: "odr: text: unknown name, line 1\n",
+        ..BAD_TEXT
+    },
+    Row {
+        // A name of 64 bytes, and one of 65.
+        held: &[(
+            "text.s",
+            b"nnnnnnnnnnnnnnnnnnnnnnnnnnnnnnnnnnnnnnnnnnnnnnnnnnnnnnnnnnnnnnnn: ecall",
+            &[],
+        )],
+        out: b"88 bytes\n",
+        saved: ("none", None),
+        ..ASSEMBLED
+    },
+    Row {
+        held: &[(
+            "text.s",
+            b"nnnnnnnnnnnnnnnnnnnnnnnnnnnnnnnnnnnnnnnnnnnnnnnnnnnnnnnnnnnnnnnnn: ecall",
+            &[],
+        )],
+        err: "odr: text: line 1\n",
         ..BAD_TEXT
     },
     Row {
@@ -201,10 +221,25 @@ fn programs_have_their_files(rt: HostRuntime) -> Result<(), Fail> {
     Ok(())
 }
 
+/// The first two instructions, `la a0, ENTRY`, of programs whose worker begins at 0x10048 and at 0x10080.
+const AT_48: [u8; 8] = [0x37, 0x05, 0x01, 0x00, 0x13, 0x05, 0x85, 0x04];
+
+const AT_80: [u8; 8] = [0x37, 0x05, 0x01, 0x00, 0x13, 0x05, 0x05, 0x08];
+
+#[test]
+fn workers_begin_at_their_entries(rt: HostRuntime) -> Result<(), Fail> {
+    let alloc = rt.alloc();
+    let files = assembled(&rt, alloc, DIVIDE_LEAST, b"220 bytes\n")?;
+    let front = files.look("elf").and_then(|file| file.get(116..124));
+    assert!(rt; front == Some(AT_48.as_slice()));
+    let files = assembled(&rt, alloc, TWELVE_CELLS, b"344 bytes\n")?;
+    let front = files.look("elf").and_then(|file| file.get(116..124));
+    assert!(rt; front == Some(AT_80.as_slice()));
+    Ok(())
+}
+
 /// Texts with the line that they print.
-static SIZES: [(&[u8], &[u8], &[u8]); 6] = [
-    (DIVIDE_LEAST, b"", b"220 bytes\n"),
-    (TWELVE_CELLS, b"", b"344 bytes\n"),
+static SIZES: [(&[u8], &[u8], &[u8]); 4] = [
     (ACCESS_LIMIT, b"", b"152 bytes\n"),
     (DEMO_FRONT, b"0", b"377 bytes\n"),
     (DEMO_FRONT, b"5", b"377 bytes\n"),
