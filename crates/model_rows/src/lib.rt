@@ -10,6 +10,10 @@ mod files;
 #[cfg(test)]
 mod instructions;
 #[cfg(test)]
+mod machine;
+#[cfg(test)]
+mod machine_edges;
+#[cfg(test)]
 mod reservations;
 #[cfg(test)]
 mod runs;

@@ -1,10 +1,12 @@
-//! Runs of the plain machine over whole programs, and the logs that they have. Each program shows one thing
-//! that a schedule may decide.
+//! Runs of the plain machine and of the machine in place over whole programs, and the logs that they have. Each
+//! program shows one thing that a schedule may decide.
 
 use crate::files::{TEXT, changed, program_file};
-use crate::stepping::{is_same, step_of};
+use crate::machine::{compare, step_both};
+use crate::stepping::is_same;
 use Outcome::{Differs, Has};
 use elf_image::image::Image;
+use guest_machine::machine::Machine;
 use guest_programs::logs::{
     BREAKPOINT_LOG, BYTES_MERGE_LOG, COMPUTED_ADDRESS_LOG, DEADLOCK_LOG, DIVIDE_LOG,
     EIGHT_THREADS_LOG, HELLO_FILE, HELLO_LOG, KEPT_LOCK_LOG, LOCKED_LOG, LOST_UPDATE_LOG,
@@ -18,6 +20,7 @@ use guest_programs::programs::{
 };
 use odr_list::bytes::Bytes;
 use odr_list::list::List;
+use odr_log::log::Log;
 use odr_log::{read_log, tape};
 use rv_model::plain;
 use rv_model::run::{first_difference, log_of};
@@ -268,7 +271,7 @@ static GUESTS: [Guest; 19] = [
 ];
 
 /// Steps of a schedule from its runs.
-fn steps_of(alloc: Global, runs: &[(u8, usize)]) -> Result<Vec<u8>, AllocError> {
+pub fn steps_of(alloc: Global, runs: &[(u8, usize)]) -> Result<Vec<u8>, AllocError> {
     let mut steps = Vec::new(alloc);
     for (thread, count) in runs {
         let longer = steps.len().saturating_add(*count);
@@ -277,27 +280,30 @@ fn steps_of(alloc: Global, runs: &[(u8, usize)]) -> Result<Vec<u8>, AllocError> 
     Ok(steps)
 }
 
-/// A run: the state that it ends in, and its events.
+/// A run: both machines where it ends, and its events.
 #[derive(Drop)]
-struct Ran {
-    state: State,
-    events: List<Event>,
+pub struct Ran<'a> {
+    pub machine: Machine<'a>,
+    pub state: State,
+    pub events: List<Event>,
 }
 
-/// The run of a schedule over an input.
-fn run(
+/// The run of a schedule over an input, on both machines.
+pub fn run<'a>(
     rt: &impl Abort,
     alloc: Global,
-    image: &Image,
+    image: &'a Image,
     input: Vec<u8>,
     schedule: &[u8],
-) -> Result<Ran, Fail> {
-    let mut state = plain::opening(alloc, image, Bytes::of(input))?;
+) -> Result<Ran<'a>, Fail> {
+    let tape = Bytes::from_slice(alloc, input.as_slice())?;
+    let mut state = plain::opening(alloc, image, tape)?;
+    let mut machine = Machine::load(alloc, image, input)?;
     let mut events = List::new(alloc);
     for thread in schedule {
         let before = state.core.threads.as_slice().get(*thread as usize);
         let at = before.map_or(0, |before| before.retired);
-        let stepped = step_of(rt, alloc, image, state, *thread)?;
+        let stepped = step_both(rt, alloc, image, &mut machine, state, *thread)?;
         events.push(Event {
             thread: *thread,
             at,
@@ -305,7 +311,11 @@ fn run(
         })?;
         state = stepped.state;
     }
-    Ok(Ran { state, events })
+    Ok(Ran {
+        machine,
+        state,
+        events,
+    })
 }
 
 /// The threads that are enabled.
@@ -317,6 +327,20 @@ fn enabled_in(alloc: Global, image: &Image, state: &State) -> Result<Vec<u8>, Fa
         }
     }
     Ok(threads)
+}
+
+/// Compares the machine in place where a run ends with the run's log, and the threads that are enabled.
+fn ends_as(rt: &impl Abort, machine: &Machine<'_>, log: &Log, enabled: &[u8]) {
+    assert_eq!(rt; machine.end(), log.end);
+    let mut list = [0; 8];
+    let count = machine.enabled_list(&mut list);
+    assert_eq!(rt; list.get(..count), Some(enabled));
+    let threads = log.threads.as_slice();
+    assert_eq!(rt; machine.threads() as usize, threads.len());
+    for tid in 0..machine.threads() {
+        let steps = threads.get(tid as usize).map(|thread| thread.steps);
+        assert_eq!(rt; Some(machine.retired(tid)), steps, "thread {tid}");
+    }
 }
 
 /// Runs a row's schedule, and compares what comes of it.
@@ -338,6 +362,8 @@ fn meets(rt: &impl Abort, alloc: Global, image: &Image, log: &[u8], row: Row) ->
             assert!(rt; made.same(&log), "{made:?}");
             let threads = enabled_in(alloc, image, &ran.state)?;
             assert_eq!(rt; threads.as_slice(), enabled, "{changes:?}, {runs:?}");
+            compare(rt, image, &ran.machine, &ran.state);
+            ends_as(rt, &ran.machine, &log, enabled);
         }
     }
     Ok(())
