@@ -1,0 +1,9 @@
+pub mod Numbers
+pub mod Circuits
+pub mod Gates
+pub mod Adders
+pub mod Built
+pub mod Comparisons
+pub mod Products
+pub mod Divisions
+pub mod Shifts
