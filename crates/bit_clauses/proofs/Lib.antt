@@ -7,3 +7,12 @@ pub mod Comparisons
 pub mod Products
 pub mod Divisions
 pub mod Shifts
+pub mod Operations
+pub mod Wires
+pub mod Tables
+pub mod Blasted
+pub mod Runs
+pub mod Sure
+pub mod Children
+pub mod Marking
+pub mod Building

@@ -38,7 +38,7 @@ nothing_more a p = omega arith
 turn : (a p b : ℕ) → a + p * b ≡ b * p + a
 turn a p b = omega arith
 
-spelled-drop : (w : Assignment) (xs : List Lit) (n : ℕ) → n ≤ length xs → spelled w (drop n xs) ≡ spelled w xs / 2 ^ n
+pub spelled-drop : (w : Assignment) (xs : List Lit) (n : ℕ) → n ≤ length xs → spelled w (drop n xs) ≡ spelled w xs / 2 ^ n
 spelled-drop w xs n h =
     let count = length-take-le n xs h in
     let whole : spelled w xs ≡ spelled w (drop n xs) * 2 ^ n + spelled w (take n xs) =
@@ -95,7 +95,7 @@ down_further i n a s by d h = elim (cases_lt n (2 ^ i)) [
   | inr near ↦ ap (λ k. a / 2 ^ s / 2 ^ k) (d.near near) ∙ shr-shr a s (2 ^ i)
 ]
 
-up_far : (a n k : ℕ) → n ≤ k → a * 2 ^ k % 2 ^ n ≡ 0
+pub up_far : (a n k : ℕ) → n ≤ k → a * 2 ^ k % 2 ^ n ≡ 0
 up_far a n k h =
     let parts : k ≡ (k - n) + n = omega (arith, h) in
     ap (λ j. a * 2 ^ j % 2 ^ n) parts ∙ ap (λ j. a * j % 2 ^ n) (pow-add 2 (k - n) n) ∙ ap (λ j. j % 2 ^ n) (regroup a (2 ^ (k - n)) (2 ^ n)) ∙ mul-mod_left (a * 2 ^ (k - n)) (2 ^ n)

@@ -3,3 +3,8 @@ pub mod Circuit
 pub mod Bitwise
 pub mod Division
 pub mod Shift
+pub mod Operation
+pub mod Nodes
+pub mod Bits
+pub mod Marks
+pub mod Laws

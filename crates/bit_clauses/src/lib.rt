@@ -4,13 +4,22 @@
 mod adder;
 pub mod bit_list;
 mod bitwise;
+pub mod blaster;
+mod byte_select;
 mod division;
 mod flip;
 mod gate;
+pub mod law;
+mod marks;
+mod nodes;
+mod operation;
 mod product;
 mod select;
 mod shift;
 mod subtract;
+mod unary;
+mod variables;
 mod way;
+mod wiring;
 
 pub use odr_list::memory::Memory;
