@@ -5,6 +5,5 @@ pub mod ImageLaws
 pub mod Laws
 pub mod Layout
 pub mod Memory
-pub mod Plain
 pub mod Segments
 pub mod Table

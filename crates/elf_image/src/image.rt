@@ -3,7 +3,6 @@ ghost use Rattle.elf_image.specs.Layout.{fetch_of, initial_of, perm_of, IsSound}
 ghost use Rattle.elf_image.specs.Memory.{opening_cells};
 ghost use Rattle.elf_image.specs.Checks.{IsImage};
 ghost use Rattle.elf_image.specs.Fault.{IsFirstFault};
-ghost use Rattle.elf_image.specs.Plain.{plain_image};
 
 use crate::cell::Cell;
 use crate::checks::{check_header, check_segments};
@@ -13,7 +12,7 @@ use crate::lookup::{byte_at, fetch, region_at};
 use crate::region::{Perm, Region};
 use crate::segments::{loads, regions};
 use crate::stack::stack_cell;
-use crate::table::{has_plain_headers, program_headers};
+use crate::table::program_headers;
 use odr_list::list::List;
 use odr_list::memory::Memory;
 use std::alloc::Global;
@@ -62,24 +61,6 @@ impl Image {
             regions: List::of(regions),
             entry,
         })
-    }
-
-    /// The image of an ELF32 file of the plain form: one or two program headers, all of them segments that
-    /// are loaded. None where the bytes are no such file.
-    pub fn read_plain(alloc: Global, bytes: &[u8]) -> Result<Option<Image>, Memory>
-        ensures { IfOk result (λ image. image ≡ plain_image bytes.now) }
-    {
-        match Image::read(alloc, bytes) {
-            Ok(image) => {
-                if has_plain_headers(alloc, bytes)? {
-                    Ok(Some(image))
-                } else {
-                    Ok(None)
-                }
-            }
-            Err(ElfFault::Memory) => Err(Memory),
-            Err(_) => Ok(None),
-        }
     }
 
     /// What every image keeps.

@@ -294,20 +294,3 @@ fn at_most_sixteen_segments(rt: HostRuntime) -> Result<(), Fail> {
     );
     Ok(())
 }
-
-#[test]
-fn plain_files(rt: HostRuntime) -> Result<(), Fail> {
-    let alloc = rt.alloc();
-    assert!(rt; Image::read_plain(alloc, &HELLO)?.is_some());
-    let mut file = HELLO;
-    file[44] = 3;
-    assert!(rt; Image::read_plain(alloc, &file)?.is_none(), "three headers");
-    file[44] = 2;
-    file[84] = 4;
-    assert!(rt; Image::read_plain(alloc, &file)?.is_none(), "a note");
-    assert!(rt;
-        Image::read_plain(alloc, &HELLO[..51])?.is_none(),
-        "no image"
-    );
-    Ok(())
-}

@@ -5,7 +5,6 @@ use Rattle.odr_log.specs.Grammar.{log_bytes, steps_of, IsInGrammar, IsValid, IsL
 use Rattle.odr_log.specs.declared.fault.LogFault.{LogFault}
 use Rattle.odr_log.specs.declared.fault.LogFault.TheVariants as fault
 use Rattle.odr_log.specs.Faults.{UnlessMemory, FitsFile, IsTooLarge, IsSomeLog, FirstBad}
-use Rattle.odr_log.specs.FirstForm.{IsFirstForm}
 use Rattle.std.specs.Prelude.{◌↔◌}
 use Rattle.std.proofs.lemmas.List.{append-nil}
 use Rattle.odr_log.specs.Reading.{whole_at}
@@ -22,16 +21,6 @@ pub no_log : (bytes : List ℕ) (left : ℕ) (other : Log) → whole_at bytes �
 no_log bytes left other read grammar spelled =
     let found : whole_at bytes ≡ Ok other = ap whole_at spelled ∙ whole-again other grammar in
     absurd cc
-
--- ---- logs of the first form
-
-pub not_first : (bytes : List ℕ) (log : Log) → whole_at bytes ≡ Ok log → (IsFirstForm log → ⊥) → (other : Log) → IsFirstForm other → bytes ≡ log_bytes other → ⊥
-not_first bytes log read none other first spelled =
-    let same = the_log bytes log other read first.valid.grammar spelled in
-    none (subst IsFirstForm (sym same) first)
-
-pub none_first : (bytes : List ℕ) (left : ℕ) → whole_at bytes ≡ Err left → (other : Log) → IsFirstForm other → bytes ≡ log_bytes other → ⊥
-none_first bytes left read other first spelled = no_log bytes left other read first.valid.grammar spelled
 
 -- ---- logs within the limits
 

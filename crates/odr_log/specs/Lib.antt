@@ -4,4 +4,3 @@ pub mod Same
 pub mod SameLaws
 pub mod Reading
 pub mod Faults
-pub mod FirstForm

@@ -6,7 +6,6 @@
 #![tactic(auto)]
 
 mod fault;
-mod first_form;
 mod laws;
 mod limits;
 pub mod log;
@@ -19,7 +18,6 @@ mod streams;
 mod write;
 
 pub use fault::LogFault;
-pub use first_form::read_first;
 pub use laws::{one_first_bad, one_spelling};
 pub use limits::{MOST_BYTES, MOST_STEPS};
 pub use odr_list::memory::Memory;

@@ -203,17 +203,3 @@ fn bad_bytes_are_named_by_their_offset(rt: HostRuntime) -> Result<(), Fail> {
     assert!(rt; matches!(read_log(rt.alloc(), &long_run), Err(LogFault::TooLarge)));
     Ok(())
 }
-
-#[test]
-fn the_first_form_is_known(rt: HostRuntime) -> Result<(), Fail> {
-    let table = [
-        (HELLO.as_slice(), true),
-        (LOST_UPDATE.as_slice(), false),
-        (NOTHING.as_slice(), true),
-        (&HELLO[..44], false),
-    ];
-    for (bytes, known) in table {
-        assert_eq!(rt; read_first(rt.alloc(), bytes)?.is_some(), known);
-    }
-    Ok(())
-}

@@ -1,5 +1,6 @@
 -- What the lines of a text come to, one after the other: the names and their places, the instructions in order, and
--- the bytes of the data part. A line at fault defines its label, has no bytes and chooses no part.
+-- the bytes of the data part. A line at fault by its form, its part or a second definition defines its label, has no bytes
+-- and chooses no part.
 use Rattle.std.specs.Prelude.{ℕ, ◌+◌, Bool, false, nat_le, List, [], ◌∷◌, ◌++◌, length, Option, Some, None, bytes_eq, if◌then◌else◌}
 use Rattle.std.specs.List.{list_any}
 use Rattle.rv32_asm.specs.declared.statement.Part.{Part}

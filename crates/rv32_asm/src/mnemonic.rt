@@ -100,6 +100,7 @@ static ATOMICS: [Atomic; 11] = [
     Atomic::Amo(AmoOp::Maxu),
 ];
 
+/// The name of a conditional branch.
 pub fn branch_name(op: BranchOp) -> &'static str
     ensures { result.now ≡ branch_name_of op }
 {
@@ -113,6 +114,7 @@ pub fn branch_name(op: BranchOp) -> &'static str
     }
 }
 
+/// The name of a load.
 pub fn load_name(op: LoadOp) -> &'static str
     ensures { result.now ≡ load_name_of op }
 {
@@ -125,6 +127,7 @@ pub fn load_name(op: LoadOp) -> &'static str
     }
 }
 
+/// The name of a store.
 pub fn store_name(op: StoreOp) -> &'static str
     ensures { result.now ≡ store_name_of op }
 {
@@ -135,6 +138,7 @@ pub fn store_name(op: StoreOp) -> &'static str
     }
 }
 
+/// The name of an operation of a register and an immediate.
 pub fn immediate_name(op: ImmOp) -> &'static str
     ensures { result.now ≡ immediate_name_of op }
 {
@@ -151,6 +155,7 @@ pub fn immediate_name(op: ImmOp) -> &'static str
     }
 }
 
+/// The name of an operation of two registers.
 pub fn register_operation_name(op: AluOp) -> &'static str
     ensures { result.now ≡ register_operation_name_of op }
 {
@@ -176,6 +181,7 @@ pub fn register_operation_name(op: AluOp) -> &'static str
     }
 }
 
+/// The name of an atomic memory operation, up to its bits aq and rl.
 pub fn amo_name(op: AmoOp) -> &'static str
     ensures { result.now ≡ amo_name_of op }
 {
@@ -192,7 +198,7 @@ pub fn amo_name(op: AmoOp) -> &'static str
     }
 }
 
-/// What stands behind an atomic operation's name.
+/// What stands behind an atomic operation's name: its bits aq and rl.
 pub fn order(aq: bool, rl: bool) -> &'static str
     ensures { result.now ≡ order_of aq rl }
 {
