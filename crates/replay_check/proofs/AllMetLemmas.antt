@@ -14,6 +14,7 @@ use Rattle.rv_model.specs.declared.state.State.{State}
 use Rattle.rv_model.specs.declared.state.Event.{Event}
 use Rattle.rv_model.specs.Thread.{no_thread}
 use Rattle.rv_model.specs.Run.{path_of, records_of, thread_logs, end_of, log_of, logged}
+use Rattle.rv_model.proofs.Difference.{length-thread_logs, thread_logs-at}
 use Rattle.replay_check.specs.declared.met.Met.{Met}
 use Rattle.replay_check.specs.Met.{IsFront, HasMet, IsAllMet}
 use Rattle.replay_check.proofs.TestLemmas.{same_tests}
@@ -21,17 +22,6 @@ use Rattle.replay_check.proofs.LoggedLemmas.{nothing_logged}
 use Rattle.replay_check.proofs.MetLemmas.{front_count}
 
 -- the logs of threads, one by one
-
-length-logs : (n : ℕ) (threads : List Thread) (happened : List Event) → length (thread_logs n threads happened) ≡ length threads
-length-logs n [] happened = refl
-length-logs n (x ∷ xs) happened = ap suc (length-logs (n + 1) xs happened)
-
-logs-at : (n i j : ℕ) (threads : List Thread) (happened : List Event) → i < length threads → n + i ≡ j
-    → ((get_or (thread_logs n threads happened) i nothing_logged).steps ≡ (get_or threads i no_thread).retired)
-    × ((get_or (thread_logs n threads happened) i nothing_logged).path ≡ path_of j happened)
-logs-at n i j [] happened within e = absurd (omega arith)
-logs-at n zero j (x ∷ xs) happened within e = (refl, (let same : n ≡ j = omega arith in ap (λ (k : ℕ). path_of k happened) same))
-logs-at n (suc i) j (x ∷ xs) happened within e = logs-at (n + 1) i j xs happened (omega arith) (omega arith)
 
 log_is : (a b : ThreadLog) → a.steps ≡ b.steps → a.path ≡ b.path → a ≡ b
 log_is a b steps path =
@@ -81,11 +71,12 @@ is_log log state happened met version has all =
 has_all : (log : Log) (state : State) (happened : List Event) (met : Met) → HasMet log happened met → log_of state happened ≡ log → IsAllMet log state.core met
 unfolding log_of
 has_all log state happened met has e = record {
-  threads = sym (length-logs 0 state.core.threads happened) ∙ ap (λ (l : Log). length l.threads) e;
+  threads = sym (length-thread_logs 0 state.core.threads happened) ∙ ap (λ (l : Log). length l.threads) e;
   each = λ (t : ℕ) (within : t < length state.core.threads). (
-    sym (logs-at 0 t t state.core.threads happened within (omega arith)).0 ∙ ap (λ (l : Log). (get_or l.threads t nothing_logged).steps) e,
+    sym (ap (λ (l : ThreadLog). l.steps) (thread_logs-at 0 t t state.core.threads happened nothing_logged within (omega arith)))
+        ∙ ap (λ (l : Log). (get_or l.threads t nothing_logged).steps) e,
     sym (front_count (path_of t happened) (get_or met.items t 0) (logged log t).path (has.items t))
-        ∙ (ap length (sym (logs-at 0 t t state.core.threads happened within (omega arith)).1)
+        ∙ (ap (λ (l : ThreadLog). length l.path) (sym (thread_logs-at 0 t t state.core.threads happened nothing_logged within (omega arith)))
         ∙ ap (λ (l : Log). length (get_or l.threads t nothing_logged).path) e),
   );
   calls = sym (front_count (records_of happened) met.calls log.calls has.calls) ∙ ap (λ (l : Log). length l.calls) e;

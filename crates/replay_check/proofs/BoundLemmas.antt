@@ -23,50 +23,8 @@ use Rattle.rv_model.specs.Thread.{losing, no_thread}
 use Rattle.rv_model.specs.Step.{thread_at, applied, child_of, effect, step, memory_of, next_instr, heard_at}
 use Rattle.rv_model.specs.Run.{logged, is_counted, agrees_by}
 use Rattle.rv_model.proofs.Progress.{threads_then, own_then, other_then, IsQuiet, quiet-act_at}
-use Rattle.rv_model.proofs.Bounds.{AtMost}
+use Rattle.rv_model.proofs.Bounds.{AtMost, child_zero, kept_then}
 use Rattle.replay_check.proofs.LoggedLemmas.{nothing_logged}
-
-child_zero : (local : Local) (shown : Note) (u : ℕ) → (get_or (child_of local shown) u no_thread).retired ≡ 0
-child_zero local (note.Called (call.Spawn entry (Some child))) zero = refl
-child_zero local (note.Called (call.Spawn entry (Some child))) (suc u) = refl
-child_zero local (note.Called (call.Spawn entry None)) u = refl
-child_zero local (note.Called (call.Exit code)) u = refl
-child_zero local (note.Called call.EndThread) u = refl
-child_zero local (note.Called (call.Join target ok)) u = refl
-child_zero local (note.Called (call.Lock mutex ok)) u = refl
-child_zero local (note.Called (call.Unlock mutex ok)) u = refl
-child_zero local (note.Called (call.TryLock mutex got)) u = refl
-child_zero local (note.Called (call.Write bytes)) u = refl
-child_zero local (note.Called call.WriteBad) u = refl
-child_zero local (note.Called (call.Read want bytes)) u = refl
-child_zero local (note.Called call.ReadBad) u = refl
-child_zero local (note.Called call.SelfId) u = refl
-child_zero local (note.Called call.Yield) u = refl
-child_zero local (note.Called (call.Unknown number)) u = refl
-child_zero local note.Nothing u = refl
-child_zero local (note.Branch taken) u = refl
-child_zero local (note.Jump target) u = refl
-child_zero local (note.Faulted fault) u = refl
-
-beyond : (t u : ℕ) (writes : List Write) (threads child : List Thread) (after : Thread) → length threads ≤ u
-    → get_or (threads_then t writes threads child after) u no_thread ≡ get_or child (u - length threads) no_thread
-beyond t u writes threads child after past =
-    get_or-append_right (set (map (losing writes) threads) t after) child (length threads) u no_thread
-    (length-set (map (losing writes) threads) t after ∙ length-map threads (losing writes)) past
-
-kept_then : (t u n : ℕ) (writes : List Write) (threads child : List Thread) (after : Thread) → t < length threads
-    → ((v : ℕ) → (get_or threads v no_thread).retired ≤ n) → after.retired ≤ n → ((v : ℕ) → (get_or child v no_thread).retired ≡ 0)
-    → (within : Bool) → ltb u (length threads) ≡ within → (same : Bool) → eqb u t ≡ same
-    → (get_or (threads_then t writes threads child after) u no_thread).retired ≤ n
-kept_then t u n writes threads child after there all more none true w true e =
-    let own : get_or (threads_then t writes threads child after) u no_thread ≡ after =
-    ap (λ (k : ℕ). get_or (threads_then t writes threads child after) k no_thread) (eqb-true u t e) ∙ own_then t writes threads child after there in
-    omega (arith, ap (λ (x : Thread). x.retired) own)
-kept_then t u n writes threads child after there all more none true w false e =
-    let ne : u ≢ t = λ (same : u ≡ t). false≢true (sym e ∙ eq-eqb u t same) in
-    omega (arith, ap (λ (x : Thread). x.retired) (other_then t u writes threads child after (ltb-true u (length threads) w) ne), all u)
-kept_then t u n writes threads child after there all more none false w same e =
-    omega (arith, ap (λ (x : Thread). x.retired) (beyond t u writes threads child after (ltb-false u (length threads) w)), none (u - length threads))
 
 -- a step with this note leaves its thread below the bound
 abbrev IsBelow : ℕ → ℕ → Note → Type 0

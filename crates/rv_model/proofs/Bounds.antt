@@ -23,7 +23,7 @@ pub record AtMost (n : ℕ) (core : Core) : Type 0 where
   pub each : (u : ℕ) → (thread_at core u).retired ≤ n
 
 -- a new thread has retired nothing
-child_zero : (local : Local) (shown : Note) (u : ℕ) → (get_or (child_of local shown) u no_thread).retired ≡ 0
+pub child_zero : (local : Local) (shown : Note) (u : ℕ) → (get_or (child_of local shown) u no_thread).retired ≡ 0
 child_zero local (note.Called (call.Spawn entry (Some child))) zero = refl
 child_zero local (note.Called (call.Spawn entry (Some child))) (suc u) = refl
 child_zero local (note.Called (call.Spawn entry None)) u = refl
@@ -51,26 +51,27 @@ beyond t u writes threads child after past =
     get_or-append_right (set (map (losing writes) threads) t after) child (length threads) u no_thread
     (length-set (map (losing writes) threads) t after ∙ length-map threads (losing writes)) past
 
-bound_then : (t u n : ℕ) (writes : List Write) (threads child : List Thread) (after : Thread) → t < length threads
-    → ((v : ℕ) → (get_or threads v no_thread).retired ≤ n) → after.retired ≤ n + 1 → ((v : ℕ) → (get_or child v no_thread).retired ≡ 0)
+-- after a step no thread has retired more than a bound that holds of the threads before it and of the one that stepped
+pub kept_then : (t u n : ℕ) (writes : List Write) (threads child : List Thread) (after : Thread) → t < length threads
+    → ((v : ℕ) → (get_or threads v no_thread).retired ≤ n) → after.retired ≤ n → ((v : ℕ) → (get_or child v no_thread).retired ≡ 0)
     → (within : Bool) → ltb u (length threads) ≡ within → (same : Bool) → eqb u t ≡ same
-    → (get_or (threads_then t writes threads child after) u no_thread).retired ≤ n + 1
-bound_then t u n writes threads child after there all more none true w true e =
+    → (get_or (threads_then t writes threads child after) u no_thread).retired ≤ n
+kept_then t u n writes threads child after there all more none true w true e =
     let own : get_or (threads_then t writes threads child after) u no_thread ≡ after =
     ap (λ (k : ℕ). get_or (threads_then t writes threads child after) k no_thread) (eqb-true u t e) ∙ own_then t writes threads child after there in
     omega (arith, ap (λ (x : Thread). x.retired) own)
-bound_then t u n writes threads child after there all more none true w false e =
+kept_then t u n writes threads child after there all more none true w false e =
     let ne : u ≢ t = λ (same : u ≡ t). false≢true (sym e ∙ eq-eqb u t same) in
     omega (arith, ap (λ (x : Thread). x.retired) (other_then t u writes threads child after (ltb-true u (length threads) w) ne), all u)
-bound_then t u n writes threads child after there all more none false w same e =
+kept_then t u n writes threads child after there all more none false w same e =
     omega (arith, ap (λ (x : Thread). x.retired) (beyond t u writes threads child after (ltb-false u (length threads) w)), none (u - length threads))
 
 outcome_bound : (n : ℕ) (core : Core) (t : ℕ) (reservation : Option ℕ) (o : Outcome) → t < length core.threads → AtMost n core → AtMost (n + 1) (applied core t reservation o).core
 outcome_bound n core t reservation (Faults fault) within most = record { each = λ (u : ℕ). omega (arith, most.each u) }
 outcome_bound n core t reservation (Goes local writes shown) within most = record {
   each = λ (u : ℕ).
-      bound_then t u n writes core.threads (child_of (thread_at core t).local shown)
-      (record { local = local; reservation = reservation; retired = (thread_at core t).retired + 1 }) within most.each (omega (arith, most.each t))
+      kept_then t u (n + 1) writes core.threads (child_of (thread_at core t).local shown)
+      (record { local = local; reservation = reservation; retired = (thread_at core t).retired + 1 }) within (λ (v : ℕ). omega (arith, most.each v)) (omega (arith, most.each t))
       (child_zero (thread_at core t).local shown) (ltb u (length core.threads)) refl (eqb u t) refl;
 }
 

@@ -139,11 +139,11 @@ slice_get-middle : {A : Type 0} (xs : List A) (y : A) (ys : List A) → slice_ge
 slice_get-middle [] y ys = refl
 slice_get-middle (x ∷ xs) y ys = slice_get-middle xs y ys
 
-length-thread_logs : (n : ℕ) (threads : List Thread) (happened : List Event) → length (thread_logs n threads happened) ≡ length threads
+pub length-thread_logs : (n : ℕ) (threads : List Thread) (happened : List Event) → length (thread_logs n threads happened) ≡ length threads
 length-thread_logs n [] happened = refl
 length-thread_logs n (x ∷ xs) happened = ap suc (length-thread_logs (n + 1) xs happened)
 
-thread_logs-at : (n i j : ℕ) (threads : List Thread) (happened : List Event) (d : ThreadLog) → i < length threads → n + i ≡ j
+pub thread_logs-at : (n i j : ℕ) (threads : List Thread) (happened : List Event) (d : ThreadLog) → i < length threads → n + i ≡ j
     → get_or (thread_logs n threads happened) i d ≡ record { steps = (get_or threads i no_thread).retired; path = path_of j happened }
 thread_logs-at n i j [] happened d within e = absurd (omega arith)
 thread_logs-at n zero j (x ∷ xs) happened d within e =
