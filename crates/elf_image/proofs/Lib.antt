@@ -1,3 +1,4 @@
 pub mod HeaderLemmas
 pub mod SoundImages
 pub mod Faults
+pub mod Apart

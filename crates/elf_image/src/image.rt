@@ -8,7 +8,7 @@ use crate::cell::Cell;
 use crate::checks::{check_header, check_segments};
 use crate::fault::{Check, ElfFault};
 use crate::field::{E_ENTRY, u32_at};
-use crate::lookup::{byte_at, fetch, region_at};
+use crate::lookup::{byte_at, fetch, fetch_apart, region_at};
 use crate::region::{Perm, Region};
 use crate::segments::{loads, regions};
 use crate::stack::stack_cell;
@@ -89,7 +89,7 @@ impl Image {
     pub fn fetch(&self, pc: u32) -> Option<u32>
         ensures { result ≡ fetch_of self.now pc }
     {
-        fetch(self.regions.as_slice(), pc)
+        fetch_apart(self.regions.as_slice(), pc)
     }
 
     /// The byte at an address in the beginning. None outside all regions.

@@ -106,6 +106,27 @@ fn hello_is_read(rt: HostRuntime) -> Result<(), Fail> {
     Ok(())
 }
 
+#[test]
+fn a_word_in_two_segments(rt: HostRuntime) -> Result<(), Fail> {
+    // The code has 30 bytes, and the three of data stand right behind it and may be executed.
+    let mut file = HELLO;
+    file[68] = 30;
+    file[72] = 30;
+    file[92] = 30;
+    file[94] = 1;
+    file[108] = 5;
+    let image = Image::read(rt.alloc(), &file)?;
+    for (pc, word) in [
+        (0x1_0018, Some(0x0010_0893)),
+        (0x1_001c, Some(0x6968_0073)),
+        (0x1_001e, None),
+        (0x1_0020, None),
+    ] {
+        assert_eq!(rt; image.fetch(pc), word, "at {pc}");
+    }
+    Ok(())
+}
+
 /// The fault of the hello program with one byte changed.
 fn changed(alloc: Global, at: usize, byte: u8) -> Option<ElfFault> {
     let mut file = HELLO;
