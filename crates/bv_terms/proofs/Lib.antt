@@ -3,3 +3,4 @@ pub mod Terms
 pub mod Bounds
 pub mod Equal
 pub mod Growth
+pub mod Shared

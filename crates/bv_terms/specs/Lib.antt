@@ -4,3 +4,4 @@ pub mod Values
 pub mod Fitting
 pub mod Variables
 pub mod Placed
+pub mod Shared

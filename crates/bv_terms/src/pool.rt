@@ -3,6 +3,7 @@ ghost use Rattle.std.specs.Prelude.{◌≡◌, ◌<◌, ◌≤◌, ◌^◌, [], 
 ghost use Rattle.bv_terms.specs.Fitting.{AreOperands, IsFitting, IsWidth};
 ghost use Rattle.bv_terms.specs.BitVectors.{bin_width};
 ghost use Rattle.bv_terms.specs.Shapes.{shape_of};
+ghost use Rattle.bv_terms.specs.Shared.{GainsAtMost, IsShared};
 ghost use Rattle.bv_terms.specs.Values.{Assignment, KeepsTerms, node_value, node_width, term_at, value_at, width_at};
 ghost use Rattle.bv_terms.specs.Variables.{IsTermOf};
 
@@ -45,10 +46,13 @@ impl<'a> TermPool<'a> {
         }
     }
 
-    /// A term with this node; want of memory leaves the pool as it was.
+    /// The term with this node: the one that has it already, or else a new one behind the others. Want of memory
+    /// leaves the pool as it was.
     pub fn add(&mut self, node: Node<'a>) -> Result<TermId, Memory>
         requires { IsFitting (width_at self.old) (length self.old) (shape_of node) }
         ensures term { IfOk result (λ id. IsTermOf self.old self.new (shape_of node.entry) id.number) }
+        ensures shared { IfOk result (λ id. IsShared self.old self.new (shape_of node.entry) id.number) }
+        ensures gains { IfOk result (λ id. GainsAtMost self.old self.new (shape_of node.entry)) }
         ensures older { KeepsTerms self.old self.new }
         ensures err { OnErr result (self.new ≡ self.old) }
     {

@@ -6,9 +6,11 @@ use Rattle.bv_terms.specs.Fitting.{IsFitting}
 use Rattle.bv_terms.specs.Placed.{shapes_of}
 use Rattle.bv_terms.specs.Shapes.{Shape, shape_of}
 use Rattle.bv_terms.specs.Values.{KeepsTerms, node_width, width_at}
+use Rattle.bv_terms.specs.Shared.{IsShared}
 use Rattle.bv_terms.specs.Variables.{IsTermOf}
 use Rattle.bv_terms.proofs.Equal.{eq_terms}
 use Rattle.bv_terms.proofs.Growth.{Grown, grown, term_grown, placed_grown, keeps_grown}
+use Rattle.bv_terms.proofs.Shared.{shared}
 use Rattle.bv_terms.proofs.pool.TermPool.add.Goals as goal
 
 pub invariant_of-self-2 : goal.invariant_of-self-2
@@ -37,3 +39,14 @@ returns-clause-term c =
     let stored = c.in_ok-number.ensures.stored in
     subst (λ (l : List Shape). IsTermOf l (shapes_of c.insert_full.new.self.keys) (shape_of c.args.node) c.in_ok-number.number) c.self.view_is
     (term_grown old c.insert_full.new.self.keys term growth c.self.invariant fits width c.in_ok-number.number stored.0 stored.1 (eq_terms term stored.0 stored.2))
+
+pub returns-clause-shared : goal.returns-clause-shared
+returns-clause-shared c =
+    let old = c.self.inside.terms.keys in
+    let new = c.insert_full.new.self.keys in
+    let term : Term = record { node = c.args.node; width = c.node_width-width.result } in
+    let width = subst (λ (l : List Shape). c.node_width-width.result ≡ node_width (width_at l) (shape_of c.args.node)) (sym c.self.view_is) c.node_width-width.ensures in
+    let found = c.in_ok-number.ensures in
+    let stored = found.stored in
+    subst (λ (l : List Shape). IsShared l (shapes_of new) (shape_of c.args.node) c.in_ok-number.number) c.self.view_is
+    (shared old new term c.in_ok-number.number stored.0 c.self.invariant width found.keys found.unique stored.1 stored.2)
