@@ -1,7 +1,7 @@
 -- The table of guest calls. ECALL takes the call's number in a7 (x17) and its arguments in a0 (x10) and a1 (x11).
 -- What the shared state of the calls answers depends on the thread and on what is asked alone; whoever hears the
 -- answer from elsewhere, as from a log, steps by the same table.
-use Rattle.std.specs.Prelude.{ℕ, ◌-◌, ◌%◌, ◌^◌, Bool, true, false, not, ◌&&◌, List, [], ◌∷◌, ◌++◌, length, take, drop, nat_eq, nat_lt, nat_le, slice_index_or, slice_set, Option, Some, None, unwrap_or, is_some, is_none, if◌then◌else◌}
+use Rattle.std.specs.Prelude.{ℕ, ◌-◌, ◌%◌, ◌^◌, Bool, true, false, not, ◌&&◌, List, [], ◌∷◌, ◌++◌, length, replicate, take, drop, nat_eq, nat_lt, nat_le, slice_index_or, slice_set, Option, Some, None, unwrap_or, is_some, is_none, if◌then◌else◌}
 use Rattle.odr_log.specs.declared.log.Call.{Call}
 use Rattle.odr_log.specs.declared.log.Call.TheVariants as call
 use Rattle.rv_model.specs.declared.state.Local.{Local}
@@ -92,6 +92,10 @@ no_reply = record { ok = false; child = None; bytes = [] }
 
 abbrev pub says : Bool → Reply
 says ok = record no_reply { ok = ok }
+
+-- thread 0 alone, every mutex free, the whole tape
+abbrev pub opening_calls : List ℕ → Calls
+opening_calls tape = record { ended = None ∷ []; owners = replicate 32 None; tape = tape }
 
 -- the number of threads that were made
 abbrev pub made : Calls → ℕ

@@ -8,3 +8,7 @@ pub mod Law
 pub mod Newest
 pub mod Short
 pub mod Met
+pub mod Walk
+pub mod Accesses
+pub mod CallsFit
+pub mod RecordedOrder

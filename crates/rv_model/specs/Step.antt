@@ -1,6 +1,6 @@
 -- The state of the guest and its one atomic step: one instruction of one thread, with all its memory bytes and its
 -- whole guest call. The memory is a list of writes, the newest first.
-use Rattle.std.specs.Prelude.{ℕ, ◌+◌, Bool, not, ◌&&◌, List, [], ◌∷◌, ◌++◌, length, map, replicate, nat_lt, slice_index_or, slice_set, Option, Some, None, is_none, Result, Ok, Err}
+use Rattle.std.specs.Prelude.{ℕ, ◌+◌, Bool, not, ◌&&◌, List, [], ◌∷◌, ◌++◌, length, map, nat_lt, slice_index_or, slice_set, Option, Some, None, is_none, Result, Ok, Err}
 use Rattle.elf_image.specs.declared.write.Write.{Write}
 use Rattle.elf_image.specs.Layout.{Layout, fetch_of}
 use Rattle.elf_image.specs.Memory.{Cells, opening_cells, cells_after, load_bytes, all_writable}
@@ -25,14 +25,14 @@ use Rattle.rv_model.specs.declared.hearing.Reach.{Reach}
 use Rattle.rv_model.specs.declared.hearing.Heard.{Heard}
 use Rattle.rv_model.specs.declared.hearing.Outcome.{Outcome}
 use Rattle.rv_model.specs.declared.hearing.Outcome.TheVariants.{Faults, Goes}
-use Rattle.rv_model.specs.Calls.{end_value, waits, reply_to, join_value, calls_after, first_argument, second_argument}
+use Rattle.rv_model.specs.Calls.{opening_calls, end_value, waits, reply_to, join_value, calls_after, first_argument, second_argument}
 use Rattle.rv_model.specs.Instruction.{act_at, access_at, asked_at, conditional_at, wins, reserving_at}
 
 -- Thread 0 alone, at the entry; every mutex is free, the tape is whole, nothing was written.
 abbrev pub opening_core : Layout → List ℕ → Core
 opening_core image tape = record {
   threads = fresh (first_local image.entry) ∷ [];
-  calls = record { ended = None ∷ []; owners = replicate 32 None; tape = tape };
+  calls = opening_calls tape;
   halt = None;
 }
 

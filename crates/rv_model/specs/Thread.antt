@@ -16,8 +16,12 @@ register local number = slice_index local.registers number
 abbrev pub with_register : Local → ℕ → ℕ → Local
 with_register local number value = if nat_eq number 0 then local else record local { registers = slice_set local.registers number value }
 
+-- the address of the next word
+abbrev pub word_after : ℕ → ℕ
+word_after pc = (pc + 4) % 2 ^ 32
+
 abbrev pub next_pc : Local → ℕ
-next_pc local = (local.pc + 4) % 2 ^ 32
+next_pc local = word_after local.pc
 
 -- after an instruction that goes on at the next word
 abbrev pub onward : Local → Local

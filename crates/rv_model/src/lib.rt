@@ -13,4 +13,5 @@ pub mod run;
 pub mod state;
 mod thread;
 pub mod values;
+pub mod walk;
 pub mod writes;
