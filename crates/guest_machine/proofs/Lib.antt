@@ -4,3 +4,4 @@ pub mod StepLemmas
 pub mod BlockedLemmas
 pub mod StandsLemmas
 pub mod EnabledLemmas
+pub mod Ecalls

@@ -3,6 +3,7 @@
 
 mod after;
 mod alone;
+mod code;
 mod enabled;
 pub mod machine;
 mod memory_access;

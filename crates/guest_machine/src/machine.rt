@@ -16,6 +16,7 @@ ghost use Rattle.guest_machine.specs.Waiting.{wait_at, held_up, enabled_threads,
 ghost use Rattle.guest_machine.specs.Whole.{StandsFor, Steps, Follows, may_step};
 
 use crate::after::{child_of, go_on, halt_then, reserving, wins};
+use crate::code::{instr_at, is_call};
 use crate::enabled::put_if;
 use crate::note::Note;
 use crate::run::{args_of, run};
@@ -28,7 +29,6 @@ use guest_mem::guest_memory::GuestMem;
 use odr_list::memory::Memory;
 use odr_log::log::{Cause, End};
 use rv_model::state::{Halt, Local, Thread};
-use rv32_decode::decode;
 use rv32_decode::instr::Instr;
 use std::alloc::Global;
 use std::marker::Model;
@@ -78,16 +78,15 @@ impl<'a> Machine<'a> {
     }
 
     /// Whether a thread whose next instruction is a guest call waits in it.
-    #[tactic(auto, unfolding(rv_model::specs::Instruction::asked_by))]
     fn is_blocked(&self, tid: u8) -> bool
         requires { tid < length self.now.core.threads }
         ensures { result ≡ waits self.now.core.calls tid (asked_at (thread_at self.now.core tid).local (next_instr self.now.image self.now.core tid) (reach_at self.now.image (cells_of self.now.blocks) self.now.core tid)) }
     {
-        let local = self.threads.get(tid).local;
-        match instr_at(self.image, local.pc) {
-            Ok(Instr::Ecall) => self.calls.blocked(tid, args_of(&local)),
-            _ => false,
+        let local = &self.threads.get(tid).local;
+        if !is_call(self.image, local.pc) {
+            return false;
         }
+        self.calls.blocked(tid, args_of(local))
     }
 
     /// Whether a thread may step: it was made and has not ended, no lock or join holds it up, and the machine
@@ -209,16 +208,15 @@ impl<'a> Machine<'a> {
     }
 
     /// What the next instruction of a thread waits for.
-    #[tactic(auto, unfolding(rv_model::specs::Instruction::asked_by))]
     fn held_up(&self, tid: u8) -> Wait
         requires { tid < length self.now.core.threads }
         ensures { result ≡ held_up self.now.core.calls tid (asked_at (thread_at self.now.core tid).local (next_instr self.now.image self.now.core tid) (reach_at self.now.image (cells_of self.now.blocks) self.now.core tid)) }
     {
-        let local = self.threads.get(tid).local;
-        match instr_at(self.image, local.pc) {
-            Ok(Instr::Ecall) => held_up(&self.calls, tid, args_of(&local)),
-            _ => Wait::Ready,
+        let local = &self.threads.get(tid).local;
+        if !is_call(self.image, local.pc) {
+            return Wait::Ready;
         }
+        held_up(&self.calls, tid, args_of(local))
     }
 
     /// The number of threads that were made.
@@ -277,7 +275,7 @@ impl<'a> Machine<'a> {
         requires room { (thread_at self.old.core tid).retired + 1 < 2 ^ 32 }
         ensures { Follows self.old (effect self.old.image (cells_of self.old.blocks) self.old.core tid) result self.new }
     {
-        let before = self.threads.get(tid);
+        let before = *self.threads.get(tid);
         match instr_at(self.image, before.local.pc) {
             Err(cause) => self.fault(tid, cause),
             Ok(instr) => self.execute(tid, before, &instr),
@@ -290,20 +288,5 @@ impl<'a> Machine<'a> {
     {
         self.halt = Some(Halt::Faulted { tid, cause });
         Note::Fault(cause)
-    }
-}
-
-/// The instruction at an address, or why there is none.
-#[tactic(auto, unfolding(rv_model::specs::Step::instr_at))]
-fn instr_at(image: &Image, pc: u32) -> Result<Instr, Cause>
-    ensures value { result ≡ instr_at image.now pc }
-    ensures valid { IfOk result IsValid }
-{
-    match image.fetch(pc) {
-        None => Err(Cause::FetchFault),
-        Some(word) => match decode(word) {
-            None => Err(Cause::Illegal),
-            Some(instr) => Ok(instr),
-        },
     }
 }

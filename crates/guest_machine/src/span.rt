@@ -28,17 +28,15 @@ fn touches(span: Access, reserved: u32) -> bool
     false
 }
 
-/// A thread without its reservation where the span touches the reserved word.
-fn without_lost(thread: Thread, span: Access) -> Thread
-    ensures { result ≡ losing_by (touches_span span) thread }
+/// Ends a thread's reservation where the span touches the reserved word.
+fn end_reservation(thread: &mut Thread, span: Access)
+    ensures { thread.new ≡ losing_by (touches_span span) thread.old }
 {
-    let mut left = thread;
     if let Some(reserved) = thread.reservation {
         if touches(span, reserved) {
-            left.reservation = None;
+            thread.reservation = None;
         }
     }
-    left
 }
 
 /// Ends the reservations of words that the span touches.
@@ -46,7 +44,7 @@ pub fn end_reservations(threads: &mut [Thread], span: Access)
     ensures { threads.new ≡ map (losing_by (touches_span span)) threads.old }
 {
     for thread in threads.iter_mut() {
-        *thread = without_lost(*thread, span);
+        end_reservation(thread, span);
     }
 }
 

@@ -47,11 +47,11 @@ impl Threads {
         self.threads.len()
     }
 
-    pub fn get(&self, tid: u8) -> Thread
+    pub fn get(&self, tid: u8) -> &Thread
         requires { tid < length self.now }
-        ensures { result ≡ slice_index_or self.now tid no_thread }
+        ensures { result.now ≡ slice_index_or self.now tid no_thread }
     {
-        self.threads[tid as usize]
+        &self.threads[tid as usize]
     }
 
     pub fn set(&mut self, tid: u8, thread: Thread)

@@ -10,10 +10,10 @@ loop-thread-preserved c =
     let f : Thread → Thread = losing_by (touches_span c.args.span) in
     let i : ℕ = c.loop-thread.thread-index in
     let xs : List Thread = c.args.threads.now in
-    let seen : c.without_lost.result ≡ f (get_or xs i no_thread) =
-    c.without_lost.ensures ∙ ap f (ap (λ (ts : List Thread). get_or ts i no_thread) c.loop-thread.invariant ∙ seen_in_place f xs i no_thread c.loop-thread-test.true) in
+    let seen : c.end_reservation.new.thread ≡ f (get_or xs i no_thread) =
+    c.end_reservation.ensures ∙ ap f (ap (λ (ts : List Thread). get_or ts i no_thread) c.loop-thread.invariant ∙ seen_in_place f xs i no_thread c.loop-thread-test.true) in
     let next : suc i ≡ i + 1 = omega arith in
-    ap (λ (ts : List Thread). set ts i c.without_lost.result) c.loop-thread.invariant
+    ap (λ (ts : List Thread). set ts i c.end_reservation.new.thread) c.loop-thread.invariant
     ∙ ap (λ (t : Thread). set (map f (take i xs) ++ drop i xs) i t) seen
     ∙ changed_in_place f xs i no_thread c.loop-thread-test.true
     ∙ ap (λ (k : ℕ). map f (take k xs) ++ drop k xs) next
