@@ -1,10 +1,13 @@
-//! Each front of three logs, and each log with one byte changed.
+//! Each front of some logs, and each of these logs with one byte changed.
 
 ghost use Rattle.std.specs.Prelude.{◌<◌, length};
 
 use crate::recogniser::{Verdict, verdict_of};
 use Change::{CutOff, OneMore, Ones, Zeros};
-use guest_programs::logs::{LOST_UPDATE_LOG, SEEDED_CUT_LOG, STORE_BUFFERING_LOG};
+use guest_programs::logs::{
+    BREAKPOINT_LOG, EIGHT_THREADS_LOG, LOST_UPDATE_LOG, SEEDED_CUT_LOG, STORE_BUFFERING_LOG,
+    TAPE_LOG, UNKNOWN_CALL_LOG,
+};
 use odr_log::{LogFault, read_log, write_log};
 use std::alloc::{AllocError, Global};
 use std::process::Abort;
@@ -26,12 +29,12 @@ enum Change {
     OneMore,
 }
 
-/// What a log becomes that is changed at each of its places in turn: how often a log, how often a log of too many steps,
-/// how often none, and the sum of the offsets of these.
+/// What a log becomes that is changed at each of its places in turn: how often a log, how often one of too many steps,
+/// how often none, and the sum of the offsets where it is none.
 type Tally = (u64, u64, u64, u64);
 
 /// Logs, changes and tallies; a recogniser in another language counted them.
-static ROWS: [(&[u8], Change, Tally); 12] = [
+static ROWS: [(&[u8], Change, Tally); 28] = [
     (&LOST_UPDATE_LOG, CutOff, (0, 0, 115, 6555)),
     (&LOST_UPDATE_LOG, Zeros, (98, 0, 17, 831)),
     (&LOST_UPDATE_LOG, Ones, (65, 6, 44, 2457)),
@@ -44,6 +47,22 @@ static ROWS: [(&[u8], Change, Tally); 12] = [
     (&SEEDED_CUT_LOG, Zeros, (30, 0, 8, 73)),
     (&SEEDED_CUT_LOG, Ones, (13, 4, 21, 477)),
     (&SEEDED_CUT_LOG, OneMore, (17, 2, 19, 448)),
+    (&UNKNOWN_CALL_LOG, CutOff, (0, 0, 35, 595)),
+    (&UNKNOWN_CALL_LOG, Zeros, (26, 0, 9, 90)),
+    (&UNKNOWN_CALL_LOG, Ones, (14, 2, 19, 379)),
+    (&UNKNOWN_CALL_LOG, OneMore, (15, 1, 19, 399)),
+    (&TAPE_LOG, CutOff, (0, 0, 345, 59340)),
+    (&TAPE_LOG, Zeros, (328, 0, 17, 1119)),
+    (&TAPE_LOG, Ones, (304, 2, 39, 6936)),
+    (&TAPE_LOG, OneMore, (306, 1, 38, 5738)),
+    (&BREAKPOINT_LOG, CutOff, (0, 0, 21, 210)),
+    (&BREAKPOINT_LOG, Zeros, (13, 0, 8, 54)),
+    (&BREAKPOINT_LOG, Ones, (2, 2, 17, 228)),
+    (&BREAKPOINT_LOG, OneMore, (3, 1, 17, 245)),
+    (&EIGHT_THREADS_LOG, CutOff, (0, 0, 211, 22155)),
+    (&EIGHT_THREADS_LOG, Zeros, (188, 0, 23, 2534)),
+    (&EIGHT_THREADS_LOG, Ones, (120, 16, 75, 8117)),
+    (&EIGHT_THREADS_LOG, OneMore, (144, 8, 59, 6157)),
 ];
 
 /// The log as it is changed at one of its places.
