@@ -16,7 +16,7 @@ use Rattle.clause_store.specs.UnitRule.{Partial, AllAtRest}
 use Rattle.clause_store.proofs.Members.{All-from_contains, Contains-head, Contains-tail}
 use Rattle.bit_clauses.specs.Circuit.{Decides, DecidesAll}
 use Rattle.bit_clauses.specs.Bits.{Bits, run, Agrees, VariablesDecided, IsBuilt, AreBuilt, HasBits, IsOf, KeepsBits, TermExtension, IsBlasted}
-use Rattle.bit_clauses.specs.Nodes.{lits_at, AreDecided, vector_in, width_in, SpellsNode}
+use Rattle.bit_clauses.specs.Nodes.{lits_at, AreDecided, IsOperation, vector_in, width_in, SpellsNode}
 use Rattle.bit_clauses.specs.Spelled.{spelled}
 use Rattle.bit_clauses.proofs.Adders.{known_later}
 use Rattle.bit_clauses.proofs.Circuits.{grows_none, grows_both, satisfies_older, rests_older}
@@ -54,6 +54,9 @@ pub decided_inside : (b : Bits) (nodes : List Shape) (id child : ℕ) (node : Sh
     → VariablesDecided b v nodes id → VariablesDecided b v nodes child
 decided_inside b nodes id child node v found listed d width number first occurs e = d width number first (Inside id child node found listed occurs) e
 
+pub built_later : (old new : Bits) (id : ℕ) → KeepsBits old new → IsBuilt old id → IsBuilt new id
+built_later old new id keeps h = subst (λ (l : List Lit). 0 < length l) (sym (keeps.terms id h)) h
+
 pub bits_later : (old new : Bits) (nodes : List Shape) (f g : Formula) (id : ℕ) → KeepsBits old new → Grows f g → IsBuilt old id → HasBits old nodes f id → HasBits new nodes g id
 bits_later old new nodes f g id keeps grows built has =
     let same = keeps.terms id built in
@@ -64,7 +67,15 @@ bits_later old new nodes f g id keeps grows built has =
       known = subst (IsKnown g.vars) (sym same) (known_later f.vars g.vars (lits_at old.terms id) grows.vars has.known);
       value = λ w t s a. ap (spelled w) same ∙ has.value w t (satisfies_older f g grows w s) (agrees_older old new keeps t w a);
       decided = λ v r d. subst (DecidesAll v) (sym same) (has.decided v (rests_older f g grows v r) (decided_older old new nodes id keeps v d));
+      below = λ node found.
+          All-from_contains (IsBuilt new) (children node) (λ c listed. built_later old new c keeps (All-contains (IsBuilt old) (children node) c (has.below node found) listed));
+      variable = λ width number found.
+          let its = has.variable width number found in
+          record { first = its.first; found = keeps.variables width number its.first its.found; literals = same ∙ its.literals };
     }
+
+pub same_found : (a b : Shape) → Some a ≡ Some b → a ≡ b
+same_found a b e = cc
 
 pub keeps_none : (b : Bits) → KeepsBits b b
 keeps_none b = record { sure = λ l e. e; variables = λ width number first e. e; terms = λ id h. refl }
@@ -75,9 +86,6 @@ keeps_both a b c k l = record {
   variables = λ width number first e. l.variables width number first (k.variables width number first e);
   terms = λ id h. l.terms id (subst (λ (x : List Lit). 0 < length x) (sym (k.terms id h)) h) ∙ k.terms id h;
 }
-
-pub built_later : (old new : Bits) (id : ℕ) → KeepsBits old new → IsBuilt old id → IsBuilt new id
-built_later old new id keeps h = subst (λ (l : List Lit). 0 < length l) (sym (keeps.terms id h)) h
 
 pub blasted_none : (b : Bits) (nodes : List Shape) (f : Formula) (root : ℕ) → IsOf b nodes f → IsBlasted b b nodes f f root
 blasted_none b nodes f root of = record {
@@ -194,14 +202,14 @@ term_more b nodes f g id root out of grows room free has extends decides =
 -- the literals of a node that is no variable
 pub operation_more : (b : Bits) (nodes : List Shape) (f g : Formula) (id root : ℕ) (node : Shape) (sure : Lit) (out : List Lit)
     → IsOf b nodes f → b.sure ≡ Some sure → id < length nodes → id < length b.terms → length (lits_at b.terms id) ≡ 0
-    → slice_get nodes id ≡ Some node → width_at nodes id ≡ node_width (width_at nodes) node → width_at nodes id ≤ 64
+    → slice_get nodes id ≡ Some node → IsOperation node → width_at nodes id ≡ node_width (width_at nodes) node → width_at nodes id ≤ 64
     → ((t : TermAssignment) → value_at t nodes id ≡ node_value t (term_at t nodes) node)
     → AreBuilt b node → ((width number : ℕ) → Occurs nodes width number id → Occurs nodes width number root)
     → SpellsNode f g b.terms sure node out
     → ((w : Assignment) → Satisfies w g.clauses → literal_value w sure ≡ true) → ((v : Partial) → AllAtRest v g.clauses → Decides v sure)
     → TermAssignment
     → IsBlasted b (with_term b id out) nodes f g root
-operation_more b nodes f g id root node sure out of is_sure within room free found width narrow value built inside spells surely decided any =
+operation_more b nodes f g id root node sure out of is_sure within room free found operation width narrow value built inside spells surely decided any =
     let grows = (spells any).circuit.grows in
     let keeps = keeps_term b id out free in
     let here : lits_at (set b.terms id out) id ≡ out = get_or-set_same b.terms id out [] room in
@@ -226,6 +234,10 @@ operation_more b nodes f g id root node sure out of is_sure within room free fou
           (λ c listed. ap (λ n. bits n (spelled w (lits_at b.terms c))) (has c listed).count ∙ ap (λ n. bits (width_at nodes c) n) ((has c listed).value w t old a)))
           ∙ sym (value t);
       decided = λ v r d. subst (DecidesAll v) (sym here) ((spells any).circuit.gives v r (given v r d, decided v r));
+      below = λ other at.
+          All-from_contains (IsBuilt (with_term b id out)) (children other) (λ c listed.
+          built_later b (with_term b id out) c keeps (All-contains (IsBuilt b) (children node) c built (subst (λ n. Contains (children n) c) (same_found other node (sym at ∙ found)) listed)));
+      variable = λ w n at. absurd (subst IsOperation (same_found node (Var w n) (sym found ∙ at)) operation);
     })
     (λ w t s a.
     let e = (spells any).circuit.extends w s in

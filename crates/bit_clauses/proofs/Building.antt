@@ -13,7 +13,7 @@ use Rattle.clause_store.specs.declared.lit.Lit.{Lit}
 use Rattle.clause_store.specs.Formula.{Formula}
 use Rattle.clause_store.proofs.Members.{All-from_contains}
 use Rattle.bit_clauses.specs.Bits.{Bits, run, first_of, IsBuilt, AreBuilt, IsOf, KeepsBits, StandsOn, IsBlasted, BuildsTerm, HasRoom, Steps}
-use Rattle.bit_clauses.specs.Nodes.{lits_at, width_in, HasLiterals, HaveLiterals, SpellsNode}
+use Rattle.bit_clauses.specs.Nodes.{lits_at, width_in, IsOperation, HasLiterals, HaveLiterals, SpellsNode}
 use Rattle.bit_clauses.proofs.Blasted.{first_child, other_children, blasted_both, blasted_none, bits_later, operation_more, same_width, with_term}
 use Rattle.bit_clauses.proofs.Circuits.{grows_none}
 use Rattle.bit_clauses.proofs.Runs.{run_length, variable_more}
@@ -63,14 +63,14 @@ literals_of_children b nodes f node of built =
 
 pub builds_operation : (b : Bits) (nodes : List Shape) (f g : Formula) (id : ℕ) (node : Shape) (sure : Lit) (out : List Lit)
     → IsOf b nodes f → b.sure ≡ Some sure → id < length nodes → id < length b.terms → length (lits_at b.terms id) ≡ 0
-    → slice_get nodes id ≡ Some node → width_at nodes id ≡ node_width (width_at nodes) node → 1 ≤ width_at nodes id → width_at nodes id ≤ 64
+    → slice_get nodes id ≡ Some node → IsOperation node → width_at nodes id ≡ node_width (width_at nodes) node → 1 ≤ width_at nodes id → width_at nodes id ≤ 64
     → ((t : TermAssignment) → value_at t nodes id ≡ node_value t (term_at t nodes) node)
     → AreBuilt b node → SpellsNode f g b.terms sure node out
     → BuildsTerm b (with_term b id out) nodes f g id
-builds_operation b nodes f g id node sure out of is_sure within room free found width some_bit narrow value built spells =
+builds_operation b nodes f g id node sure out of is_sure within room free found operation width some_bit narrow value built spells =
     let later = sure_later f g sure (spells zeros).circuit.grows (of.sure sure is_sure) in
     let blasted : (root : ℕ) → StandsOn nodes root id → IsBlasted b (with_term b id out) nodes f g root =
-    λ root inside. operation_more b nodes f g id root node sure out of is_sure within room free found width narrow value built inside spells (sure_true g sure later) (sure_decided g sure later) zeros in
+    λ root inside. operation_more b nodes f g id root node sure out of is_sure within room free found operation width narrow value built inside spells (sure_true g sure later) (sure_decided g sure later) zeros in
     let count : length out ≡ width_at nodes id =
     (spells zeros).count ∙ same_width (width_in b.terms) (width_at nodes) node (widths_of_children b nodes f node of built) ∙ sym width in
     record {

@@ -1,15 +1,15 @@
 -- Variables with literals of their own.
 use Rattle.std.proofs.Common.{◌≡◌, ℕ, zero, suc, ◌+◌, ◌-◌, ◌*◌, ◌/◌, ◌%◌, ◌^◌, ◌<◌, ◌≤◌, ◌⊎◌, Bool, true, false, cond, ◌&&◌, Option, Some, None, List, [], ◌∷◌, ◌++◌, length, get_or, set, drop, nat_eq, nat_lt, slice_get, refl, sym, ◌∙◌, ap, subst, arith, inl, inr, length-append}
-use Rattle.std.specs.Prelude.{IsSome}
+use Rattle.std.specs.Prelude.{All, IsSome}
 use Rattle.std.proofs.Math.Nat.{mod-eq_of_lt}
 use Rattle.std.proofs.lemmas.Bool.{cases_lt, and_parts}
 use Rattle.std.proofs.lemmas.Bool.Decides.{nat_tests}
 use Rattle.std.proofs.lemmas.Nat.{shr_split, mod-mul-add, mod_below, pow_pos}
 use Rattle.std.proofs.lemmas.Option.{none-some, same_Some}
 use Rattle.std.proofs.lemmas.List.{drop_more, append-nil, get_or-set_same}
-use Rattle.std.proofs.lemmas.List.Elements.{All-contains, Contains-append_right}
+use Rattle.std.proofs.lemmas.List.Elements.{All-nil, All-contains, Contains-append_right}
 use Rattle.bv_terms.specs.BitVectors.{bit_of}
-use Rattle.bv_terms.specs.Shapes.{Shape, Var}
+use Rattle.bv_terms.specs.Shapes.{Shape, Var, children}
 use Rattle.bv_terms.specs.Values.{value_at, width_at}
 use Rattle.bv_terms.specs.Values.{Assignment as TermAssignment}
 use Rattle.bv_terms.specs.Variables.{Occurs, Here}
@@ -20,12 +20,12 @@ use Rattle.clause_store.specs.Laws.{SatisfiedAlike}
 use Rattle.clause_store.specs.UnitRule.{Partial}
 use Rattle.clause_store.proofs.Members.{All-left, Contains-head}
 use Rattle.bit_clauses.specs.declared.variables.Variable.{Variable}
-use Rattle.bit_clauses.specs.Bits.{Bits, run, first_of, IsOf, KeepsBits, IsBlasted}
+use Rattle.bit_clauses.specs.Bits.{Bits, run, first_of, IsBuilt, IsOf, KeepsBits, IsBlasted}
 use Rattle.bit_clauses.specs.Circuit.{Decides, DecidesAll}
 use Rattle.bit_clauses.specs.Nodes.{lits_at}
 use Rattle.bit_clauses.specs.Spelled.{spelled, bit}
 use Rattle.bit_clauses.proofs.Adders.{pow-more}
-use Rattle.bit_clauses.proofs.Blasted.{spelled_agrees, run_known, bits_later, term_more, with_term}
+use Rattle.bit_clauses.proofs.Blasted.{spelled_agrees, run_known, same_found, bits_later, term_more, with_term}
 use Rattle.bit_clauses.proofs.Circuits.{grows_none}
 use Rattle.bit_clauses.proofs.Numbers.{spelled-push}
 
@@ -247,6 +247,18 @@ variable_more b nodes f id root width number first of within room free found is_
       known = subst (IsKnown f.vars) (sym here) (run_known first width f.vars (of.variables width number first e));
       value = λ w t s a. ap (spelled w) here ∙ a width number first e ∙ sym (value t);
       decided = λ v r d. subst (DecidesAll v) (sym here) (d width number first (Here id found) e);
+      below = λ node at.
+          let new = with_term b id (run first width) in
+          subst (λ n. All (IsBuilt new) (children n)) (same_found (Var width number) node (sym found ∙ at)) (All-nil (IsBuilt new));
+      variable = λ w n at.
+          let same = same_found (Var width number) (Var w n) (sym found ∙ at) in
+          let widths : width ≡ w = cc in
+          let numbers : number ≡ n = cc in
+          record {
+            first = first;
+            found = sym (ap (λ k. first_of b.variables k number) widths ∙ ap (λ k. first_of b.variables w k) numbers) ∙ e;
+            literals = here ∙ ap (run first) widths;
+          };
     })
     (λ w t s a. record { extended = w; agrees = λ x h. refl; satisfies = s; spells = a })
     (λ v r d x low high. absurd (omega (arith, low, high)))

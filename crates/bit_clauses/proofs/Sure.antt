@@ -1,10 +1,10 @@
 -- A literal that a clause of one literal makes true, and what more terms keep.
-use Rattle.std.proofs.Common.{◌≡◌, ℕ, ◌+◌, ◌<◌, true, false, cond, not, Some, None, List, [], ◌∷◌, ◌++◌, nat_lt, refl, sym, ◌∙◌, ap, subst, arith, inl, inr}
+use Rattle.std.proofs.Common.{◌≡◌, ℕ, ◌+◌, ◌<◌, true, false, cond, not, Some, None, List, [], ◌∷◌, ◌++◌, nat_lt, Option, refl, sym, ◌∙◌, ap, subst, arith, inl, inr}
 use Rattle.std.specs.Prelude.{IsSome, Contains}
 use Rattle.std.proofs.lemmas.Bool.Decides.{nat_tests}
 use Rattle.std.proofs.lemmas.Option.{none-some, same_Some, slice_get_within}
 use Rattle.std.proofs.lemmas.List.Elements.{All-push, All-contains, Contains-append_left, Contains-append_right}
-use Rattle.bv_terms.specs.Shapes.{Shape, Var}
+use Rattle.bv_terms.specs.Shapes.{Shape, Var, children}
 use Rattle.bv_terms.specs.Values.{KeepsTerms}
 use Rattle.bv_terms.specs.Variables.{Occurs, Here, Inside}
 use Rattle.clause_store.specs.declared.lit.Lit.{Lit}
@@ -13,7 +13,7 @@ use Rattle.clause_store.specs.Formula.{Formula, Grows, AllKnown}
 use Rattle.clause_store.specs.Laws.{SatisfiedAlike}
 use Rattle.clause_store.specs.UnitRule.{Partial, MakesTrue, IsAtRest, AllAtRest}
 use Rattle.clause_store.proofs.Members.{Contains-head, Contains-nil, Contains-cons_cases, Any-from_contains}
-use Rattle.bit_clauses.specs.Bits.{Bits, run, IsBuilt, IsOf, IsSure, KeepsBits, IsBlasted}
+use Rattle.bit_clauses.specs.Bits.{Bits, run, first_of, IsBuilt, IsOf, IsSure, KeepsBits, IsBlasted}
 use Rattle.bit_clauses.specs.Circuit.{Decides}
 use Rattle.bit_clauses.proofs.Blasted.{bits_later, keeps_none, spelled_agrees, run_known}
 
@@ -108,6 +108,8 @@ known_later b nodes more f g keeps grows of = record {
         known = has.known;
         value = λ w t s a. has.value w t s a ∙ sym (keeps.value t id has.within);
         decided = λ v r d. has.decided v r (λ w n first o e. d w n first (occurs_later nodes more w n id keeps o) e);
+        below = λ node at. has.below node (sym (keeps.node id has.within) ∙ at);
+        variable = λ w n at. has.variable w n (sym (keeps.node id has.within) ∙ at);
       };
 }
 
@@ -120,3 +122,13 @@ nothing_known nodes f = record {
   where
     nothing : (id : ℕ) → IsBuilt (record { sure = None; variables = []; terms = [] }) id → ⊥
     nothing id built = omega (arith, built)
+
+-- ---- variables
+
+pub variables_built : (b : Bits) (nodes : List Shape) (f : Formula) (width number id : ℕ) → IsOf b nodes f → IsBuilt b id → Occurs nodes width number id
+    → IsSome (first_of b.variables width number)
+variables_built b nodes f width number at of built (Here id found) =
+    let its = (of.terms id built).variable width number found in
+    subst (λ (x : Option ℕ). IsSome x) (sym its.found) refl
+variables_built b nodes f width number at of built (Inside id child node found listed o) =
+    variables_built b nodes f width number child of (All-contains (IsBuilt b) (children node) child ((of.terms id built).below node found) listed) o

@@ -1,6 +1,6 @@
 -- What a Blaster knows: the literals of variables and of terms.
 use Rattle.std.specs.Prelude.{◌≡◌, ◌+◌, ◌<◌, ◌≤◌, ℕ, zero, suc, Bool, true, ◌&&◌, nat_eq, Option, Some, None, IsSome, All, List, [], ◌∷◌, ◌++◌, Contains, length, slice_get, if◌then◌else◌}
-use Rattle.bv_terms.specs.Shapes.{Shape, children}
+use Rattle.bv_terms.specs.Shapes.{Shape, Var, children}
 use Rattle.bv_terms.specs.Values.{value_at, width_at}
 use Rattle.bv_terms.specs.Values.{Assignment as TermAssignment}
 use Rattle.bv_terms.specs.Variables.{Occurs}
@@ -40,7 +40,18 @@ VariablesDecided b v nodes id = (width number first : ℕ) → Occurs nodes widt
 abbrev pub IsBuilt : Bits → ℕ → Type 0
 IsBuilt b id = 0 < length (lits_at b.terms id)
 
--- The term's literals spell its value where the clauses hold, and with its variables the unit rule gives them.
+-- the terms that a node stands on have literals
+abbrev pub AreBuilt : Bits → Shape → Type 0
+AreBuilt b node = All (IsBuilt b) (children node)
+
+-- the term's literals are those of the variable of this width and number
+pub record AreOfVariable (b : Bits) (width number id : ℕ) : Type 0 where
+  pub first : ℕ
+  pub found : first_of b.variables width number ≡ Some first
+  pub literals : lits_at b.terms id ≡ run first width
+
+-- The term's literals spell its value where the clauses hold, and with its variables the unit rule gives them. The terms
+-- that it stands on have literals too, and a variable's term has the variable's.
 pub record HasBits (b : Bits) (nodes : List Shape) (f : Formula) (id : ℕ) : Type 0 where
   pub within : id < length nodes
   pub count : length (lits_at b.terms id) ≡ width_at nodes id
@@ -48,6 +59,8 @@ pub record HasBits (b : Bits) (nodes : List Shape) (f : Formula) (id : ℕ) : Ty
   pub known : IsKnown f.vars (lits_at b.terms id)
   pub value : (w : Assignment) (t : TermAssignment) → Satisfies w f.clauses → Agrees b t w → spelled w (lits_at b.terms id) ≡ value_at t nodes id
   pub decided : (v : Partial) → AllAtRest v f.clauses → VariablesDecided b v nodes id → DecidesAll v (lits_at b.terms id)
+  pub below : (node : Shape) → slice_get nodes id ≡ Some node → AreBuilt b node
+  pub variable : (width number : ℕ) → slice_get nodes id ≡ Some (Var width number) → AreOfVariable b width number id
 
 -- a clause makes the literal true
 pub record IsSure (f : Formula) (sure : Lit) : Type 0 where
@@ -98,10 +111,6 @@ pub record HasRoom (old new : Bits) (id : ℕ) : Type 0 where
   pub variables : new.variables ≡ old.variables
   pub terms : (j : ℕ) → lits_at new.terms j ≡ lits_at old.terms j
   pub room : id < length new.terms
-
--- the terms that a node stands on have literals
-abbrev pub AreBuilt : Bits → Shape → Type 0
-AreBuilt b node = All (IsBuilt b) (children node)
 
 -- what occurs in the term occurs in the root
 abbrev pub StandsOn : List Shape → (root id : ℕ) → Type 0

@@ -1,5 +1,5 @@
 //! The Blaster: literals and clauses for terms.
-ghost use Rattle.std.specs.Prelude.{◌≡◌, ◌<◌, ◌∷◌, ◌++◌, ℕ, true, List, None, Some, [], length, slice_get, slice_index_or, IfOk, MatchOption, OnOk, OnErr};
+ghost use Rattle.std.specs.Prelude.{◌≡◌, ◌<◌, ◌∷◌, ◌++◌, ◌↔◌, ℕ, true, List, None, Some, [], length, slice_get, slice_index_or, IfOk, IsTrue, MatchOption, OnOk, OnErr};
 ghost use Rattle.bv_terms.specs.Fitting.{IsFitting, IsWidth};
 ghost use Rattle.bv_terms.specs.Shapes.{Shape, Var, children, shape_of};
 ghost use Rattle.bv_terms.specs.Values.{Assignment, node_value, node_width, term_at, value_at, width_at};
@@ -262,8 +262,60 @@ impl Blaster {
         Ok(())
     }
 
+    // Whether a term has literals.
+    fn is_built(&self, id: TermId) -> bool
+        ensures { IsTrue result ↔ IsBuilt self.now id.number }
+    {
+        match self.terms.get(id.number) {
+            Some(bits) => bits.len() > 0,
+            None => false,
+        }
+    }
+
+    // The literals of a term and of those that it stands on.
+    fn build_from(
+        &mut self,
+        alloc: Global,
+        pool: &TermPool<'_>,
+        clauses: &mut ClauseStore<'_>,
+        term: TermId,
+    ) -> Result<(), Memory>
+        requires within { term.number < length pool.now }
+        requires known { IsOf self.old pool.now clauses.old }
+        ensures blasted { OnOk result (IsBlasted self.old self.new pool.now clauses.old clauses.new term.number) }
+        ensures built { OnOk result (IsBuilt self.new term.number) }
+        ensures err { OnErr result (Grows clauses.old clauses.new) }
+    {
+        let yes = self.sure(clauses)?;
+        self.make_room(alloc, term)?;
+        let marks = needed(alloc, pool, term)?;
+        self.build_all(alloc, pool, clauses, term, marks.as_slice(), yes)?;
+        Ok(())
+    }
+
+    // The literals of a term, if it has none.
+    fn ensure_built(
+        &mut self,
+        alloc: Global,
+        pool: &TermPool<'_>,
+        clauses: &mut ClauseStore<'_>,
+        term: TermId,
+    ) -> Result<(), Memory>
+        requires within { term.number < length pool.now }
+        requires known { IsOf self.old pool.now clauses.old }
+        ensures blasted { OnOk result (IsBlasted self.old self.new pool.now clauses.old clauses.new term.number) }
+        ensures built { OnOk result (IsBuilt self.new term.number) }
+        ensures again { IsBuilt self.old term.number → (self.new ≡ self.old) × (clauses.new ≡ clauses.old) }
+        ensures err { OnErr result (Grows clauses.old clauses.new) }
+    {
+        if self.is_built(term) {
+            return Ok(());
+        }
+        self.build_from(alloc, pool, clauses, term)
+    }
+
     /// The literals of a term of this Blaster's pool, the one of the lowest bit first, with the clauses that fix
-    /// them. Pool and clauses are those of the earlier calls, or have grown since. After an error the older clauses
+    /// them; nothing is added for a term that has literals. Pool and clauses are those of the earlier calls, or have grown since. After an error the older clauses
     /// are as they were, and the Blaster isn't to be used any more.
     pub fn bits<'a>(
         &mut self,
@@ -277,12 +329,10 @@ impl Blaster {
         ensures blasted { IfOk result (λ bits. IsBlasted self.old self.new pool.now clauses.old clauses.new term.number) }
         ensures built { IfOk result (λ bits. HasBits self.new pool.now clauses.new term.number) }
         ensures bits { IfOk result (λ bits. bits ≡ lits_at self.new.terms term.number) }
+        ensures again { IsBuilt self.old term.number → (self.new ≡ self.old) × (clauses.new ≡ clauses.old) }
         ensures err { OnErr result (Grows clauses.old clauses.new) }
     {
-        let yes = self.sure(clauses)?;
-        self.make_room(alloc, term)?;
-        let marks = needed(alloc, pool, term)?;
-        self.build_all(alloc, pool, clauses, term, marks.as_slice(), yes)?;
+        self.ensure_built(alloc, pool, clauses, term)?;
         let bits = BitList::of(alloc, self.terms[term.number].as_slice())?;
         Ok(bits)
     }

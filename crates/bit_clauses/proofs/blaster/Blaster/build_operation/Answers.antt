@@ -16,4 +16,4 @@ returns-clause-builds c =
     let spells = subst (λ (ts : List (List Lit)). SpellsNode c.args.clauses.now c.node_bits.new.clauses ts c.args.yes (shape_of c.args.node) c.in_ok-out.out) same c.in_ok-out.ensures.spells in
     subst (λ (x : Bits). BuildsTerm c.args.self.now (with_term x id c.in_ok-out.out) c.args.pool.now c.args.clauses.now c.node_bits.new.clauses id) e
     (builds_operation c.args.self.now c.args.pool.now c.args.clauses.now c.node_bits.new.clauses id (shape_of c.args.node) c.args.yes c.in_ok-out.out
-    c.requires.known c.requires.sure c.requires.within c.requires.room c.requires.free c.requires.node c.requires.width c.requires.is_width.0 c.requires.is_width.1 c.requires.value c.requires.children spells)
+    c.requires.known c.requires.sure c.requires.within c.requires.room c.requires.free c.requires.node c.requires.operation c.requires.width c.requires.is_width.0 c.requires.is_width.1 c.requires.value c.requires.children spells)

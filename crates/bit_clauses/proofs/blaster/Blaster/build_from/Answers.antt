@@ -1,7 +1,7 @@
 use Rattle.bit_clauses.proofs.Blasted.{blasted_both}
 use Rattle.bit_clauses.proofs.Building.{on_err, room_more}
 use Rattle.bit_clauses.proofs.Circuits.{grows_both}
-use Rattle.bit_clauses.proofs.blaster.Blaster.bits.Goals as goal
+use Rattle.bit_clauses.proofs.blaster.Blaster.build_from.Goals as goal
 
 pub returns-in_err-make_room-clause-err : goal.returns-in_err-make_room-clause-err
 returns-in_err-make_room-clause-err c = on_err c.from_residual-in_err-make_room.result (c.in_ok-yes.ensures.blasted c.args.pool.now c.args.term.number c.requires.known).grows
@@ -18,11 +18,6 @@ pub returns-in_err-build_all-clause-err : goal.returns-in_err-build_all-clause-e
 returns-in_err-build_all-clause-err c =
     let one = c.in_ok-yes.ensures.blasted c.args.pool.now c.args.term.number c.requires.known in
     on_err c.from_residual-in_err-build_all.result (grows_both c.args.clauses.now c.sure.new.clauses c.build_all.new.clauses one.grows c.in_err-build_all.ensures.err)
-
-pub returns-in_err-bits-clause-err : goal.returns-in_err-bits-clause-err
-returns-in_err-bits-clause-err c =
-    let one = c.in_ok-yes.ensures.blasted c.args.pool.now c.args.term.number c.requires.known in
-    on_err c.from_residual-in_err-bits.result (grows_both c.args.clauses.now c.sure.new.clauses c.build_all.new.clauses one.grows c.in_ok-build_all.ensures.blasted.grows)
 
 pub returns-clause-blasted : goal.returns-clause-blasted
 returns-clause-blasted c =
