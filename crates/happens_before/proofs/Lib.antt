@@ -1,0 +1,5 @@
+pub mod ClosedForm
+pub mod FitLemmas
+pub mod PassLemmas
+pub mod SpawnLemmas
+pub mod TableLemmas

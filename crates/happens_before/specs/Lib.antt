@@ -1,0 +1,3 @@
+pub mod Table
+pub mod Reach
+pub mod Shared

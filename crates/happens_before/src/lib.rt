@@ -1,0 +1,11 @@
+//! The order of steps that a log records, and whether the calls of a log fit the table of guest calls.
+#![tactic(auto)]
+
+mod fit;
+pub mod order;
+mod shared;
+pub mod table;
+#[cfg(test)]
+mod tests;
+
+pub use odr_list::memory::Memory;
