@@ -1,9 +1,8 @@
 -- The recorded order in closed form: steps of one thread by their numbers, and steps of two threads by two calls.
-use Rattle.std.specs.Prelude.{◌≡◌, ◌≢◌, ◌↔◌, ℕ, ◌<◌, ◌≤◌, ◌⊎◌, List, length, nat_le, slice_get, Option, Some, None, Contains, IsTrue, refl}
+use Rattle.std.specs.Prelude.{◌≡◌, ◌≢◌, ◌↔◌, ℕ, ◌<◌, ◌≤◌, ◌⊎◌, length, slice_get, Option, Some, None, Contains, IsTrue, refl}
 use Rattle.std.proofs.Common.{sym, ◌∙◌, ap, subst, inl, inr, arith, get_or}
 use Rattle.std.proofs.lemmas.Bool.{cases_lt, leb-true, le-leb, false≢true}
 use Rattle.std.proofs.lemmas.Option.{same_Some, slice_get_within, get_or_from_slice_get, slice_get_read}
-use Rattle.odr_log.specs.declared.log.Call.{Call}
 use Rattle.odr_log.specs.declared.log.Call.TheVariants as call
 use Rattle.odr_log.specs.declared.log.CallRec.{CallRec}
 use Rattle.odr_log.specs.declared.log.Log.{Log}
@@ -11,7 +10,7 @@ use Rattle.odr_log.specs.declared.log.Pos.{Pos}
 use Rattle.odr_log.specs.Tape.{tape_of}
 use Rattle.rv_model.specs.Calls.{opening_calls}
 use Rattle.rv_model.specs.CallsFit.{CallsFit}
-use Rattle.rv_model.specs.RecordedOrder.{Closure, One, More, Counted, IsStepOf, Edge, InThread, ByCalls, BySpawn, CountedEdge, RecordedOrder, IsOpen}
+use Rattle.rv_model.specs.RecordedOrder.{Closure, One, More, Counted, IsStepOf, Edge, InThread, ByCalls, BySpawn, CountedEdge, RecordedOrder}
 use Rattle.happens_before.specs.Reach.{IsCallAt, Leaves, Called, Made, Reached, IsLeast, IsGreatest, meets}
 use Rattle.happens_before.proofs.SpawnLemmas.{spawn_first}
 
@@ -136,8 +135,8 @@ then_up_to log p q r order (inr last) = joined order last
 in_thread : (log : Log) (thread s t : ℕ) → Counted log (at thread s) → Counted log (at thread t) → s ≤ t → IsUpTo log (at thread s) (at thread t)
 in_thread log thread s t from to le =
     elim (cases_lt s t) [
-      inl less ↦ inr (One (record { from = from; to = to; edge = InThread refl less }))
-    | inr past ↦ inl (let same : s ≡ t = omega (arith, le, past) in ap (at thread) same)
+      | inl less ↦ inr (One (record { from = from; to = to; edge = InThread refl less }))
+      | inr past ↦ inl (let same : s ≡ t = omega (arith, le, past) in ap (at thread) same)
     ]
 
 pub same_step : (log : Log) (m n : ℕ) (p q : Pos) → m ≡ n → IsStepOf log m p → IsStepOf log n q → p ≡ q
@@ -151,8 +150,8 @@ same_step log m n p q e a b =
 up_to_call : (log : Log) (m n : ℕ) (p q : Pos) → Counted log p → Counted log q → IsStepOf log m p → IsStepOf log n q → m ≤ n → IsUpTo log p q
 up_to_call log m n p q from to a b le =
     elim (cases_lt m n) [
-      inl less ↦ inr (One (record { from = from; to = to; edge = ByCalls a b less }))
-    | inr past ↦ inl (let same : m ≡ n = omega (arith, le, past) in same_step log m n p q same a b)
+      | inl less ↦ inr (One (record { from = from; to = to; edge = ByCalls a b less }))
+      | inr past ↦ inl (let same : m ≡ n = omega (arith, le, past) in same_step log m n p q same a b)
     ]
 
 from_spawn : (log : Log) (q : Pos) (d : ℕ) → Counted log q → (made : Made log q.thread d) → RecordedOrder log made.0 q

@@ -1,11 +1,10 @@
 -- Calls at rising steps, and the halt of the last record.
-use Rattle.std.specs.Prelude.{◌≡◌, ◌≢◌, ℕ, zero, suc, ◌+◌, ◌<◌, ◌≤◌, ◌⊎◌, List, [], ◌∷◌, length, slice_set, Option, Some, None, is_some, AllPairs, refl}
+use Rattle.std.specs.Prelude.{◌≡◌, ◌≢◌, ℕ, zero, suc, ◌+◌, ◌<◌, ◌≤◌, ◌⊎◌, List, [], ◌∷◌, length, slice_set, is_some, AllPairs}
 use Rattle.std.specs.List.{list_all}
 use Rattle.std.proofs.Common.{sym, ◌∙◌, ap, subst, inl, inr, arith, get_or}
-use Rattle.std.proofs.lemmas.Bool.{cases_eq, cases_order}
+use Rattle.std.proofs.lemmas.Bool.{cases_eq}
 use Rattle.std.proofs.lemmas.List.{get_or_read, length-set, get_or-set_same, get_or-set_other}
 use Rattle.odr_log.specs.declared.log.CallRec.{CallRec}
-use Rattle.rv_model.specs.declared.state.Halt.{Halt}
 use Rattle.rv_model.specs.declared.state.Note.TheVariants as note
 use Rattle.rv_model.specs.Step.{halt_then}
 use Rattle.odr_log.specs.declared.log.Log.{Log}
@@ -40,11 +39,11 @@ module _ (records : List CallRec) (least : List ℕ) (i : ℕ) (x : CallRec) (wi
   pub rises_not : x.tid < 256 → x.at < get_or least x.tid 0 → AllPairs (λ earlier later. earlier.tid ≡ later.tid → earlier.at < later.at) records → ⊥
   rises_not room less pairs =
       elim (so_far.met x.tid room) [
-        inl zero_there ↦ omega (arith, less, zero_there)
-      | inr seen ↦
-          let tid : (get_or records seen.0 x).tid ≡ (get_or records i x).tid = (seen.2 x).0 ∙ ap (λ (r : CallRec). r.tid) at in
-          let rises : (get_or records seen.0 x).at < (get_or records i x).at = pairs seen.0 i x seen.1 within tid in
-          omega (arith, less, rises, (seen.2 x).1, ap (λ (r : CallRec). r.at) at)
+        | inl zero_there ↦ omega (arith, less, zero_there)
+        | inr seen ↦
+            let tid : (get_or records seen.0 x).tid ≡ (get_or records i x).tid = (seen.2 x).0 ∙ ap (λ (r : CallRec). r.tid) at in
+            let rises : (get_or records seen.0 x).at < (get_or records i x).at = pairs seen.0 i x seen.1 within tid in
+            omega (arith, less, rises, (seen.2 x).1, ap (λ (r : CallRec). r.at) at)
       ]
 
   module _ (room : x.tid < 256) (more : get_or least x.tid 0 ≤ x.at) where
@@ -62,39 +61,43 @@ module _ (records : List CallRec) (least : List ℕ) (i : ℕ) (x : CallRec) (wi
     rising_more : (j k : ℕ) (d : CallRec) → j < k → k < i + 1 → (get_or records j d).tid ≡ (get_or records k d).tid → (get_or records j d).at < (get_or records k d).at
     rising_more j k d less upto same =
         elim (cases_eq k i) [
-          inl last ↦
-            let at_k : x ≡ get_or records k d = here d ∙ ap (λ (n : ℕ). get_or records n d) (sym last) in
-            let tid : (get_or records j d).tid ≡ x.tid = same ∙ sym (ap (λ (r : CallRec). r.tid) at_k) in
-            omega (arith, so_far.below j d (omega (arith, less, last)), ap (λ (n : ℕ). get_or least n 0) tid, more, ap (λ (r : CallRec). r.at) at_k)
-        | inr earlier ↦ so_far.rising j k d less (omega (arith, upto, earlier)) same
+          | inl last ↦
+              let at_k : x ≡ get_or records k d = here d ∙ ap (λ (n : ℕ). get_or records n d) (sym last) in
+              let tid : (get_or records j d).tid ≡ x.tid = same ∙ sym (ap (λ (r : CallRec). r.tid) at_k) in
+              omega (arith, so_far.below j d (omega (arith, less, last)), ap (λ (n : ℕ). get_or least n 0) tid, more, ap (λ (r : CallRec). r.at) at_k)
+          | inr earlier ↦ so_far.rising j k d less (omega (arith, upto, earlier)) same
         ]
 
     below_more : (k : ℕ) (d : CallRec) → k < i + 1 → (get_or records k d).at < get_or after (get_or records k d).tid 0
     below_more k d upto =
         elim (cases_eq k i) [
-          inl last ↦
-            let at_k : x ≡ get_or records k d = here d ∙ ap (λ (n : ℕ). get_or records n d) (sym last) in
-            let there : get_or after (get_or records k d).tid 0 ≡ x.at + 1 = ap (λ (r : CallRec). get_or after r.tid 0) (sym at_k) ∙ same_there in
-            omega (arith, there, ap (λ (r : CallRec). r.at) at_k)
-        | inr earlier ↦
-            let old : (get_or records k d).at < get_or least (get_or records k d).tid 0 = so_far.below k d (omega (arith, upto, earlier)) in
-            elim (cases_eq (get_or records k d).tid x.tid) [
-              inl same ↦ omega (arith, old, ap (λ (n : ℕ). get_or least n 0) same, ap (λ (n : ℕ). get_or after n 0) same, same_there, more)
-            | inr ne ↦ omega (arith, old, other_there (get_or records k d).tid ne)
-            ]
+          | inl last ↦
+              let at_k : x ≡ get_or records k d = here d ∙ ap (λ (n : ℕ). get_or records n d) (sym last) in
+              let there : get_or after (get_or records k d).tid 0 ≡ x.at + 1 = ap (λ (r : CallRec). get_or after r.tid 0) (sym at_k) ∙ same_there in
+              omega (arith, there, ap (λ (r : CallRec). r.at) at_k)
+          | inr earlier ↦
+              let old : (get_or records k d).at < get_or least (get_or records k d).tid 0 = so_far.below k d (omega (arith, upto, earlier)) in
+              elim (cases_eq (get_or records k d).tid x.tid) [
+                | inl same ↦ omega (arith, old, ap (λ (n : ℕ). get_or least n 0) same, ap (λ (n : ℕ). get_or after n 0) same, same_there, more)
+                | inr ne ↦ omega (arith, old, other_there (get_or records k d).tid ne)
+              ]
         ]
 
     met_more : (t : ℕ) → t < 256
         → (get_or after t 0 ≡ 0) ⊎ ((k : ℕ) × (k < i + 1) × ((d : CallRec) → ((get_or records k d).tid ≡ t) × (get_or after t 0 ≡ (get_or records k d).at + 1)))
     met_more t t_room =
         elim (cases_eq t x.tid) [
-          inl same ↦ inr (i, omega arith, λ d. (
-            sym (ap (λ (r : CallRec). r.tid) (here d)) ∙ sym same,
-            ap (λ (n : ℕ). get_or after n 0) same ∙ same_there ∙ ap (λ (r : CallRec). r.at + 1) (here d),
-          ))
-        | inr ne ↦ elim (so_far.met t t_room) [
-            inl zero_there ↦ inl (other_there t ne ∙ zero_there)
-          | inr seen ↦ inr (seen.0, omega (arith, seen.1), λ d. ((seen.2 d).0, other_there t ne ∙ (seen.2 d).1))
+          | inl same ↦ inr (
+            i,
+            omega arith,
+            λ d. (
+              sym (ap (λ (r : CallRec). r.tid) (here d)) ∙ sym same,
+              ap (λ (n : ℕ). get_or after n 0) same ∙ same_there ∙ ap (λ (r : CallRec). r.at + 1) (here d),
+            ),
+          )
+          | inr ne ↦ elim (so_far.met t t_room) [
+            | inl zero_there ↦ inl (other_there t ne ∙ zero_there)
+            | inr seen ↦ inr (seen.0, omega (arith, seen.1), λ d. ((seen.2 d).0, other_there t ne ∙ (seen.2 d).1))
           ]
         ]
 

@@ -1,5 +1,5 @@
 -- The walk through the records with the shared state that lacks the tape: one record more.
-use Rattle.std.specs.Prelude.{◌≡◌, ◌↔◌, ℕ, zero, suc, ◌+◌, ◌<◌, ◌≤◌, min, Bool, true, false, ◌||◌, List, [], ◌∷◌, ◌++◌, length, take, drop, nat_lt, slice_get, slice_index_or, Option, Some, None, IsTrue, refl}
+use Rattle.std.specs.Prelude.{◌≡◌, ◌↔◌, ℕ, ◌+◌, ◌<◌, ◌≤◌, min, Bool, true, false, ◌||◌, List, [], ◌∷◌, ◌++◌, length, take, drop, nat_lt, slice_get, Option, Some, None, IsTrue, refl}
 use Rattle.std.specs.List.{fold}
 use Rattle.std.proofs.Common.{sym, ◌∙◌, ap, subst, inl, inr, arith, get_or}
 use Rattle.std.proofs.lemmas.Bool.{cases_lt, ltb-true, lt-ltb, false≢true, or_cases, or_left, or_right}
@@ -28,8 +28,8 @@ front_split want bytes later = (
   λ p.
       let count : min want (length bytes) ≡ length bytes = sym (length-take want bytes) ∙ ap length p.0 in
       elim (cases_lt (length bytes) want) [
-        inl short ↦ ap (λ (l : List ℕ). take want (bytes ++ l)) (p.1 (lt-ltb (length bytes) want short)) ∙ ap (take want) (append-nil bytes) ∙ p.0
-      | inr full ↦ take_at bytes later want (omega (arith, count, full))
+        | inl short ↦ ap (λ (l : List ℕ). take want (bytes ++ l)) (p.1 (lt-ltb (length bytes) want short)) ∙ ap (take want) (append-nil bytes) ∙ p.0
+        | inr full ↦ take_at bytes later want (omega (arith, count, full))
       ],
 )
 
@@ -41,8 +41,7 @@ reply_split : (s : Shared) (tid : ℕ) (made : Call) (later : List ℕ)
     ↔ ((reply_to (with_tape s (read_by made)) tid (asked_in made) ≡ reply_in made) × (falls_short made ≡ true → later ≡ []))
 unfolding with_bytes
 reply_split s tid (call.Read want bytes) later =
-    let split : (take want (bytes ++ later) ≡ bytes) ↔ ((take want bytes ≡ bytes) × (nat_lt (length bytes) want ≡ true → later ≡ [])) = front_split want bytes later in
-    (
+    let split : (take want (bytes ++ later) ≡ bytes) ↔ ((take want bytes ≡ bytes) × (nat_lt (length bytes) want ≡ true → later ≡ [])) = front_split want bytes later in (
       λ e. let parts : (take want bytes ≡ bytes) × (nat_lt (length bytes) want ≡ true → later ≡ []) = split.0 (ap (λ (r : Reply). r.bytes) e) in (ap with_bytes parts.0, parts.1),
       λ p. ap with_bytes (split.1 (ap (λ (r : Reply). r.bytes) p.0, p.1)),
     )
@@ -63,14 +62,16 @@ fits_split : (s : Shared) (r : CallRec) (later : List ℕ)
 fits_split s r later = (
   λ f.
       let parts : (reply_to (with_tape s (read_by r.call)) r.tid (asked_in r.call) ≡ reply_in r.call) × (falls_short r.call ≡ true → later ≡ []) =
-      (reply_split s r.tid r.call later).0 f.answered in
-      (record {
-        exists = f.exists;
-        live = f.live;
-        ready = same_waits s (read_by r.call) (read_by r.call ++ later) r.tid (asked_in r.call) ∙ f.ready;
-        answered = parts.0;
-        possible = f.possible;
-      }, parts.1),
+      (reply_split s r.tid r.call later).0 f.answered in (
+        record {
+          exists = f.exists;
+          live = f.live;
+          ready = same_waits s (read_by r.call) (read_by r.call ++ later) r.tid (asked_in r.call) ∙ f.ready;
+          answered = parts.0;
+          possible = f.possible;
+        },
+        parts.1,
+      ),
   λ p. record {
     exists = p.0.exists;
     live = p.0.live;
@@ -107,8 +108,8 @@ rest_more s t r later fits after dry = (
   λ rest. (
     subst (λ (c : Calls). Pass c later) (after (tape_in later)) rest.0.1,
     λ e. elim (or_cases s.dry (falls_short r.call) (sym dry ∙ e)) [
-      inl was ↦ back_nil (read_by r.call) (tape_in later) (rest.1 was)
-    | inr short ↦ ((fits_split s r (tape_in later)).0 rest.0.0).1 short
+      | inl was ↦ back_nil (read_by r.call) (tape_in later) (rest.1 was)
+      | inr short ↦ ((fits_split s r (tape_in later)).0 rest.0.0).1 short
     ],
   ),
   λ rest. (
@@ -137,13 +138,16 @@ pub fits_made : (s : Shared) (r : CallRec) → FitsNow s r → FitsCall s r.tid 
 fits_made s r fits = record { answered = (fits.0.ready, fits.0.answered); possible = fits.0.possible; dry = fits.1 }
 
 pub fits_both : (s : Shared) (r : CallRec) → slice_get s.ended r.tid ≡ Some None → FitsCall s r.tid r.call → FitsNow s r
-fits_both s r live made = (record {
-  exists = slice_get_within s.ended r.tid None live;
-  live = get_or_from_slice_get s.ended r.tid None None live;
-  ready = made.answered.0;
-  answered = made.answered.1;
-  possible = made.possible;
-}, made.dry)
+fits_both s r live made = (
+  record {
+    exists = slice_get_within s.ended r.tid None live;
+    live = get_or_from_slice_get s.ended r.tid None None live;
+    ready = made.answered.0;
+    answered = made.answered.1;
+    possible = made.possible;
+  },
+  made.dry,
+)
 
 -- the walk so far: what passes all is what passes the rest, and so is what it leaves
 pub record Walked (all : List CallRec) (s : Shared) (i : ℕ) : Type 0 where

@@ -1,9 +1,9 @@
 -- What the table of an order says of the calls of its log.
-use Rattle.std.specs.Prelude.{◌≡◌, ◌↔◌, ℕ, zero, suc, ◌+◌, ◌-◌, ◌<◌, ◌≤◌, ◌⊎◌, max, Bool, true, false, ◌&&◌, cond, List, [], ◌∷◌, ◌++◌, length, map, take, filter, fold, nat_eq, nat_lt, slice_get, Option, Some, None, All, Contains, IsTrue, refl}
+use Rattle.std.specs.Prelude.{◌≡◌, ℕ, zero, suc, ◌+◌, ◌-◌, ◌<◌, ◌≤◌, ◌⊎◌, max, Bool, true, false, cond, List, [], ◌∷◌, ◌++◌, length, map, take, filter, fold, nat_eq, slice_get, Option, Some, None, All, Contains, refl}
 use Rattle.std.specs.List.{enumerate_from, range_with_len}
 use Rattle.std.specs.List.Sorted.{IsNonDecreasingBy, IsPartitionPoint}
 use Rattle.std.proofs.Common.{sym, ◌∙◌, ap, subst, inl, inr, arith, get_or}
-use Rattle.std.proofs.lemmas.Bool.{cases_lt, cases_Bool, and_parts, and_from, eqb-true, eq-eqb, ltb-true, lt-ltb, false≢true}
+use Rattle.std.proofs.lemmas.Bool.{cases_lt, and_parts, and_from, eqb-true, eq-eqb, ltb-true, lt-ltb, false≢true}
 use Rattle.std.proofs.lemmas.Option.{none-some, same_Some, slice_get_within, slice_get-get_or, get_or_from_slice_get}
 use Rattle.std.proofs.lemmas.List.{length-map, get_or-map, get_or_default, get_or_past, map-append, take_all}
 use Rattle.std.proofs.lemmas.List.Elements.{All-filter, filter_passes, filter_more}
@@ -18,11 +18,11 @@ use Rattle.odr_log.specs.declared.log.Pos.{Pos}
 use Rattle.odr_log.specs.declared.log.ThreadLog.{ThreadLog}
 use Rattle.rv_model.specs.Run.{logged}
 use Rattle.rv_model.specs.CallsFit.{CallsFit}
-use Rattle.rv_model.specs.RecordedOrder.{Counted, IsStepOf}
+use Rattle.rv_model.specs.RecordedOrder.{Counted}
 use Rattle.happens_before.specs.declared.table.Mark.{Mark}
 use Rattle.happens_before.specs.declared.table.ThreadCalls.{ThreadCalls}
-use Rattle.happens_before.specs.Table.{is_counted_record, makes, numbered, mark_of, is_call_of, is_maker, calls_of, maker_after, maker_of, calls_of_thread, order_of, IsOrderOf, thread_calls}
-use Rattle.happens_before.specs.Reach.{IsCallAt, Leaves, Called, Made, Reached, IsLeast, IsGreatest, greater}
+use Rattle.happens_before.specs.Table.{is_counted_record, makes, numbered, mark_of, is_call_of, is_maker, calls_of, maker_after, maker_of, calls_of_thread, IsOrderOf, thread_calls}
+use Rattle.happens_before.specs.Reach.{IsCallAt, Leaves, Called, Made, IsLeast, IsGreatest, greater}
 use Rattle.happens_before.proofs.ClosedForm.{at, calls_rise, same_step}
 
 abbrev pub is_mark_of : Log → ℕ → ℕ × CallRec → Bool
@@ -122,10 +122,10 @@ steps_rise log fit t i j d le within =
     let two : IsCallAt log t second.step second.number = mark_is_call log t j d within in
     let rises : first.number ≤ second.number = numbers_rise log t i j d le within in
     elim (cases_lt first.number second.number) [
-      inl less ↦ omega (arith, calls_rise log fit t first.step second.step first.number second.number one.1 two.1 less)
-    | inr past ↦
-        let same : first.number ≡ second.number = omega (arith, rises, past) in
-        omega (arith, ap (λ (p : Pos). p.step) (same_step log first.number second.number (at t first.step) (at t second.step) same one.1 two.1))
+      | inl less ↦ omega (arith, calls_rise log fit t first.step second.step first.number second.number one.1 two.1 less)
+      | inr past ↦
+          let same : first.number ≡ second.number = omega (arith, rises, past) in
+          omega (arith, ap (λ (p : Pos). p.step) (same_step log first.number second.number (at t first.step) (at t second.step) same one.1 two.1))
     ]
 
 -- the table at a thread of a counted step
@@ -133,10 +133,10 @@ steps_rise log fit t i j d le within =
 counted_within : (log : Log) (p : Pos) → Counted log p → p.thread < length log.threads
 counted_within log p counted =
     elim (cases_lt p.thread (length log.threads)) [
-      inl within ↦ within
-    | inr past ↦
-        let none : logged log p.thread ≡ record { steps = 0; path = [] } = get_or_past log.threads p.thread (record { steps = 0; path = [] }) past in
-        absurd (omega (arith, counted, ap (λ (l : ThreadLog). l.steps) none))
+      | inl within ↦ within
+      | inr past ↦
+          let none : logged log p.thread ≡ record { steps = 0; path = [] } = get_or_past log.threads p.thread (record { steps = 0; path = [] }) past in
+          absurd (omega (arith, counted, ap (λ (l : ThreadLog). l.steps) none))
     ]
 
 pub table_at : (order : List ThreadCalls) (log : Log) (p : Pos) → IsOrderOf order log → Counted log p → thread_calls order p.thread ≡ calls_of_thread log p.thread
@@ -165,8 +165,8 @@ module _ (log : Log) (p : Pos) (marks : List Mark) (is : marks ≡ calls_of log 
     not_left : (s n : ℕ) → p.step ≤ s → (has : Contains marks (record { step = s; number = n })) → i ≤ has.0
     not_left s n late has =
         elim (cases_lt has.0 i) [
-          inl before ↦ absurd (omega (arith, point.0 has.0 (record { step = s; number = n }) (omega arith) before, late, ap (λ (m : Mark). m.step) has.2))
-        | inr past ↦ past
+          | inl before ↦ absurd (omega (arith, point.0 has.0 (record { step = s; number = n }) (omega arith) before, late, ap (λ (m : Mark). m.step) has.2))
+          | inr past ↦ past
         ]
 
     pub leaves_first : (d : Mark) → i < length marks → IsLeast (Leaves log p) (Some (get_or marks i d).number)
@@ -188,14 +188,13 @@ module _ (log : Log) (p : Pos) (marks : List Mark) (is : marks ≡ calls_of log 
     in_front : (s n : ℕ) → s ≤ p.step → (has : Contains marks (record { step = s; number = n })) → has.0 < i
     in_front s n early has =
         elim (cases_lt has.0 i) [
-          inl before ↦ before
-        | inr past ↦ absurd (omega (arith, point.1 has.0 (record { step = s; number = n }) past has.1, early, ap (λ (m : Mark). m.step) has.2))
+          | inl before ↦ before
+          | inr past ↦ absurd (omega (arith, point.1 has.0 (record { step = s; number = n }) past has.1, early, ap (λ (m : Mark). m.step) has.2))
         ]
 
     pub called_last : (d : Mark) → 0 < i → i ≤ length marks → IsGreatest (Called log p) (Some (get_or marks (i - 1) d).number)
     called_last d some within =
-        let last_within : i - 1 < length marks = omega (arith, some, within) in
-        (
+        let last_within : i - 1 < length marks = omega (arith, some, within) in (
           ((get_or marks (i - 1) d).step, omega (arith, point.0 (i - 1) d (omega arith) (omega (arith, some))), call_there (i - 1) d last_within),
           λ n called.
               let mark : Mark = record { step = called.0; number = n } in
@@ -222,8 +221,8 @@ greatest_either P Q None (Some b) p q = (inr q.0, λ n e. elim e [ inl x ↦ abs
 greatest_either P Q (Some a) None p q = (inl p.0, λ n e. elim e [ inl x ↦ p.1 n x | inr y ↦ absurd (q n y) ])
 greatest_either P Q (Some a) (Some b) p q = (
   elim (cases_lt a b) [
-    inl less ↦ inr (subst Q (let same : b ≡ max a b = omega (arith, less) in same) q.0)
-  | inr past ↦ inl (subst P (let same : a ≡ max a b = omega (arith, past) in same) p.0)
+    | inl less ↦ inr (subst Q (let same : b ≡ max a b = omega (arith, less) in same) q.0)
+    | inr past ↦ inl (subst P (let same : a ≡ max a b = omega (arith, past) in same) p.0)
   ],
   λ n e. elim e [ inl x ↦ omega (arith, p.1 n x) | inr y ↦ omega (arith, q.1 n y) ],
 )
@@ -258,12 +257,12 @@ makers log t n (x ∷ xs) acc P below greatest =
     greatest_as (λ k. Q k ⊎ MadeFrom log t (n + 1) xs k) (λ k. P k ⊎ MadeFrom log t n (x ∷ xs) k)
     (fold (maker_after log t) (cond (is_maker log t x) (Some n) acc) (enumerate_from (n + 1) xs))
     (λ k e. elim e [
-      inl q ↦ elim q [ inl p ↦ inl p | inr y ↦ inr (0, x, omega (arith, y.0), refl, y.1) ]
-    | inr made ↦ inr (made.0 + 1, made.1, omega (arith, made.2), subst (λ (j : ℕ). slice_get (x ∷ xs) j ≡ Some made.1) (let next : suc made.0 ≡ made.0 + 1 = omega arith in next) made.3, made.4)
+      | inl q ↦ elim q [ inl p ↦ inl p | inr y ↦ inr (0, x, omega (arith, y.0), refl, y.1) ]
+      | inr made ↦ inr (made.0 + 1, made.1, omega (arith, made.2), subst (λ (j : ℕ). slice_get (x ∷ xs) j ≡ Some made.1) (let next : suc made.0 ≡ made.0 + 1 = omega arith in next) made.3, made.4)
     ])
     (λ k e. elim e [
-      inl p ↦ inl (inl p)
-    | inr made ↦ elim (made_cons log t n k x xs made) [ inl y ↦ inl (inr y) | inr later ↦ inr later ]
+      | inl p ↦ inl (inl p)
+      | inr made ↦ elim (made_cons log t n k x xs made) [ inl y ↦ inl (inr y) | inr later ↦ inr later ]
     ])
     more
 
@@ -276,8 +275,7 @@ made_from : (log : Log) (t k : ℕ) → MadeFrom log t 0 log.calls k → Made lo
 made_from log t k (i, r, same, is, maker) =
     let parts : (makes t r.call ≡ true) × (is_counted_record log r ≡ true) = and_parts _ _ maker in
     let spawn : (entry : ℕ) × (r.call ≡ call.Spawn entry (Some t)) = spawn_of t r.call parts.0 in
-    let place : i ≡ k = omega (arith, same) in
-    (
+    let place : i ≡ k = omega (arith, same) in (
       at r.tid r.at,
       spawn.0,
       ltb-true r.at (logged log r.tid).steps parts.1,
@@ -326,7 +324,7 @@ pub calls_more : (log : Log) (t : ℕ) (items : List CallRec) (i : ℕ) (r : Cal
 calls_more log t items i r same within is =
     let next : (i < length (numbered log)) × (get_or (numbered log) i (i, r) ≡ (i, r)) = numbered_next log items i r same within is in
     ap (map mark_of) (filter_more (is_mark_of log t) (numbered log) i (i, r) next.0
-        ∙ ap (λ (x : ℕ × CallRec). filter (is_mark_of log t) (take i (numbered log)) ++ cond (is_mark_of log t x) (x ∷ []) []) next.1)
+    ∙ ap (λ (x : ℕ × CallRec). filter (is_mark_of log t) (take i (numbered log)) ++ cond (is_mark_of log t x) (x ∷ []) []) next.1)
     ∙ map-append mark_of (filter (is_mark_of log t) (take i (numbered log))) (cond (is_mark_of log t (i, r)) ((i, r) ∷ []) [])
     ∙ ap (λ (l : List Mark). calls_among log t i ++ l) (map_cond (is_mark_of log t (i, r)) (i, r))
 

@@ -1,6 +1,6 @@
 -- What an order keeps of a log: the counted calls of each thread, by the numbers of their records. Calls at steps that
 -- the log doesn't count are in no order.
-use Rattle.std.specs.Prelude.{◌≡◌, ℕ, Bool, true, false, ◌&&◌, List, [], ◌∷◌, length, map, filter, nat_eq, nat_lt, slice_index_or, Option, Some, None, fold, if◌then◌else◌}
+use Rattle.std.specs.Prelude.{◌≡◌, ℕ, Bool, false, ◌&&◌, List, [], length, map, filter, nat_eq, nat_lt, slice_index_or, Option, Some, None, fold, if◌then◌else◌}
 use Rattle.std.specs.List.{enumerate_from, range_with_len}
 use Rattle.odr_log.specs.declared.log.Call.{Call}
 use Rattle.odr_log.specs.declared.log.Call.TheVariants as call

@@ -46,7 +46,8 @@ fn makes(thread: usize, call: &Call) -> bool
 {
     match call {
         Call::Spawn {
-            child: Some(child), ..
+            child: Some(child),
+            ..
         } => *child as usize == thread,
         _ => false,
     }

@@ -20,16 +20,14 @@ returns-after-keeps_order c =
     let final : with_tape c.in-Some.shared [] ≡ final_calls c.args.log.now = rw (c.in-Some.is, c.as_slice-records.ensures) at c.in_ok-walk.ensures.shared in
     let keeps : IsTrue c.keeps_order.result ↔ KeepsOrder c.args.log.now.calls = rw c.as_slice-records.ensures at c.keeps_order.ensures in
     elim c.if-keeps_order.branch [
-      then-keeps_order w ↦
-        rw w.result-is
-        (
-          λ ends. fit_from c.args.log.now c.in-Some.shared pass final (keeps.0 w.if-keeps_order.true) (w.ends_so.ensures.0 ends),
-          λ fit. w.ends_so.ensures.1 (fit_ends c.args.log.now c.in-Some.shared final fit),
-        )
-    | else-keeps_order w ↦
-        rw w.result-is
-        (
-          λ never. absurd (false≢true (sym w.if-keeps_order.false ∙ never)),
-          λ fit. absurd (false≢true (sym w.if-keeps_order.false ∙ keeps.1 (fit_keeps c.args.log.now fit))),
-        )
+      | then-keeps_order w ↦
+          rw w.result-is (
+            λ ends. fit_from c.args.log.now c.in-Some.shared pass final (keeps.0 w.if-keeps_order.true) (w.ends_so.ensures.0 ends),
+            λ fit. w.ends_so.ensures.1 (fit_ends c.args.log.now c.in-Some.shared final fit),
+          )
+      | else-keeps_order w ↦
+          rw w.result-is (
+            λ never. absurd (false≢true (sym w.if-keeps_order.false ∙ never)),
+            λ fit. absurd (false≢true (sym w.if-keeps_order.false ∙ keeps.1 (fit_keeps c.args.log.now fit))),
+          )
     ]

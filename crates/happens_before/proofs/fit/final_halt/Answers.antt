@@ -1,4 +1,4 @@
-use Rattle.std.specs.Prelude.{ℕ, ◌-◌, length}
+use Rattle.std.specs.Prelude.{◌-◌, length}
 use Rattle.std.proofs.Common.{sym, ◌∙◌, arith}
 use Rattle.happens_before.proofs.FitLemmas.{last_halt}
 use Rattle.happens_before.proofs.fit.final_halt.Goals as goal

@@ -11,12 +11,11 @@ loop-made-init c = rises_none c.args.records.now _ (length-replicate {A = ℕ} 2
 pub returns-then-at-least : goal.returns-then-at-least
 returns-then-at-least c =
     let room : c.made-item.result.tid < 256 = search rules in
-    let less : c.made-item.result.at < slice_index_or c.loop-made.least c.made-item.result.tid 0 = omega arith in
-    (
+    let less : c.made-item.result.at < slice_index_or c.loop-made.least c.made-item.result.tid 0 = omega arith in (
       λ never. absurd (false≢true never),
       λ pairs.
           absurd (rises_not c.args.records.now c.loop-made.least c.loop-made.made-index c.made-item.result (omega arith) c.made-item.is
-              c.loop-made.invariant room less pairs),
+          c.loop-made.invariant room less pairs),
     )
 
 pub loop-made-preserved : goal.loop-made-preserved
@@ -25,4 +24,4 @@ loop-made-preserved c =
     let more : slice_index_or c.loop-made.least c.made-item.result.tid 0 ≤ c.made-item.result.at = omega arith in
     rw c.from-at.ensures
     (rises_more c.args.records.now c.loop-made.least c.loop-made.made-index c.made-item.result (omega arith) c.made-item.is
-        c.loop-made.invariant room more)
+    c.loop-made.invariant room more)

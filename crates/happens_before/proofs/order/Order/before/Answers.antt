@@ -1,4 +1,3 @@
-use Rattle.std.specs.Prelude.{◌≡◌}
 use Rattle.std.proofs.lemmas.Bool.{ltb-true, lt-ltb}
 use Rattle.happens_before.proofs.ClosedForm.{before_in_thread, before_apart}
 use Rattle.happens_before.proofs.order.Order.before.Goals as goal
@@ -13,5 +12,5 @@ returns-then-a-b c =
 pub returns : goal.returns
 returns c =
     λ log is from to.
-        rw c.meets.ensures
-        (before_apart log is.fit c.args.a c.args.b from to c.if-a-b.false c.leave.result c.arrival.result (c.leave.ensures log is from) (c.arrival.ensures log is to))
+    rw c.meets.ensures
+    (before_apart log is.fit c.args.a c.args.b from to c.if-a-b.false c.leave.result c.arrival.result (c.leave.ensures log is from) (c.arrival.ensures log is to))
