@@ -111,9 +111,9 @@ edge_before log {p} {q} from to (BySpawn {entry = entry} has) =
     })
 
 -- the recorded order has the closed form
-closed : (log : Log) → CallsFit log → {p q : Pos} → Closure (CountedEdge log) p q → IsBefore log p q
-closed log fit (One e) = edge_before log e.from e.to e.edge
-closed log fit {p} {q} (More {q = x} e rest) = before_then log fit p x q (edge_before log e.from e.to e.edge) (closed log fit rest)
+to_closed : (log : Log) → CallsFit log → {p q : Pos} → Closure (CountedEdge log) p q → IsBefore log p q
+to_closed log fit (One e) = edge_before log e.from e.to e.edge
+to_closed log fit {p} {q} (More {q = x} e rest) = before_then log fit p x q (edge_before log e.from e.to e.edge) (to_closed log fit rest)
 
 -- the other way round: the chain of steps
 
@@ -170,9 +170,9 @@ arrival log p q m n from to a (inr b) =
     (up_to_call log m n p b.0.0 from b.0.2 a (record { made = call.Spawn b.0.1 (Some q.thread); is = b.0.3 }) b.1)
     (from_spawn log q n to b.0)
 
-open_form : (log : Log) (p q : Pos) → Counted log p → Counted log q → IsBefore log p q → RecordedOrder log p q
-open_form log p q from to (inl b) = One (record { from = from; to = to; edge = InThread b.0 b.1 })
-open_form log p q from to (inr v) =
+from_closed : (log : Log) (p q : Pos) → Counted log p → Counted log q → IsBefore log p q → RecordedOrder log p q
+from_closed log p q from to (inl b) = One (record { from = from; to = to; edge = InThread b.0 b.1 })
+from_closed log p q from to (inr v) =
     up_to_then log p (at p.thread v.leaves.0) q
     (in_thread log p.thread p.step v.leaves.0 from v.leaves.2.0 v.leaves.1)
     (arrival log (at p.thread v.leaves.0) q v.from v.to v.leaves.2.0 to v.leaves.2.1 v.arrives)
@@ -195,7 +195,7 @@ in_thread_before log fit p q same (inr v) = via_in_thread log fit p q v.from v.t
 pub before_in_thread : (log : Log) → CallsFit log → (p q : Pos) → Counted log p → Counted log q → p.thread ≡ q.thread
     → (p.step < q.step) ↔ RecordedOrder log p q
 before_in_thread log fit p q from to same =
-    (λ less. open_form log p q from to (inl (same, less)), λ order. in_thread_before log fit p q same (closed log fit order))
+    (λ less. from_closed log p q from to (inl (same, less)), λ order. in_thread_before log fit p q same (to_closed log fit order))
 
 apart_via : (log : Log) (p q : Pos) → p.thread ≢ q.thread → IsBefore log p q → Via log p q
 apart_via log p q apart (inl b) = absurd (apart b.0)
@@ -215,16 +215,16 @@ pub before_apart : (log : Log) → CallsFit log → (p q : Pos) → Counted log 
 before_apart log fit p q from to apart (Some m) (Some n) least greatest = (
   λ le.
       let below : m ≤ n = leb-true m n le in
-      open_form log p q from to (inr (record { from = m; to = n; leaves = least.0; arrives = arrives log p q m n apart least.0 greatest.0 below })),
+      from_closed log p q from to (inr (record { from = m; to = n; leaves = least.0; arrives = arrives log p q m n apart least.0 greatest.0 below })),
   λ order.
-      let v : Via log p q = apart_via log p q apart (closed log fit order) in
+      let v : Via log p q = apart_via log p q apart (to_closed log fit order) in
       le-leb m n (omega (arith, least.1 v.from v.leaves, rises_to log q v.from v.to v.arrives, greatest.1 v.to (reached log q v.from v.to v.arrives))),
 )
 before_apart log fit p q from to apart None arrival least greatest = (
   λ never. absurd (false≢true never),
-  λ order. let v : Via log p q = apart_via log p q apart (closed log fit order) in absurd (least v.from v.leaves),
+  λ order. let v : Via log p q = apart_via log p q apart (to_closed log fit order) in absurd (least v.from v.leaves),
 )
 before_apart log fit p q from to apart (Some m) None least greatest = (
   λ never. absurd (false≢true never),
-  λ order. let v : Via log p q = apart_via log p q apart (closed log fit order) in absurd (greatest v.to (reached log q v.from v.to v.arrives)),
+  λ order. let v : Via log p q = apart_via log p q apart (to_closed log fit order) in absurd (greatest v.to (reached log q v.from v.to v.arrives)),
 )

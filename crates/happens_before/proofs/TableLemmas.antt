@@ -17,11 +17,12 @@ use Rattle.odr_log.specs.declared.log.Log.{Log}
 use Rattle.odr_log.specs.declared.log.Pos.{Pos}
 use Rattle.odr_log.specs.declared.log.ThreadLog.{ThreadLog}
 use Rattle.rv_model.specs.Run.{logged}
+use Rattle.rv_model.specs.Walk.{makes}
 use Rattle.rv_model.specs.CallsFit.{CallsFit}
 use Rattle.rv_model.specs.RecordedOrder.{Counted}
 use Rattle.happens_before.specs.declared.table.Mark.{Mark}
 use Rattle.happens_before.specs.declared.table.ThreadCalls.{ThreadCalls}
-use Rattle.happens_before.specs.Table.{is_counted_record, makes, numbered, mark_of, is_call_of, is_maker, calls_of, maker_after, maker_of, calls_of_thread, IsOrderOf, thread_calls}
+use Rattle.happens_before.specs.Table.{is_counted_record, numbered, mark_of, is_call_of, is_maker, calls_of, maker_after, maker_number, calls_of_thread, IsOrderOf, thread_calls}
 use Rattle.happens_before.specs.Reach.{IsCallAt, Leaves, Called, Made, IsLeast, IsGreatest, greater}
 use Rattle.happens_before.proofs.ClosedForm.{at, calls_rise, same_step}
 
@@ -292,9 +293,9 @@ from_made log t k made = (
   and_from _ _ (eq-eqb t t refl) (lt-ltb made.0.step (logged log made.0.thread).steps made.2),
 )
 
-pub maker_greatest : (log : Log) (t : ℕ) → IsGreatest (Made log t) (maker_of log t)
+pub maker_greatest : (log : Log) (t : ℕ) → IsGreatest (Made log t) (maker_number log t)
 maker_greatest log t =
-    greatest_as (λ k. ⊥ ⊎ MadeFrom log t 0 log.calls k) (Made log t) (maker_of log t)
+    greatest_as (λ k. ⊥ ⊎ MadeFrom log t 0 log.calls k) (Made log t) (maker_number log t)
     (λ k e. elim e [ inl never ↦ absurd never | inr made ↦ made_from log t k made ])
     (λ k made. inr (from_made log t k made))
     (makers log t 0 log.calls None (λ k. ⊥) (λ k never. absurd never) (λ k never. never))
@@ -341,17 +342,17 @@ numbered_all_taken log items i same past =
 pub calls_all : (log : Log) (t : ℕ) (items : List CallRec) (i : ℕ) → items ≡ log.calls → length items ≤ i → calls_among log t i ≡ calls_of log t
 calls_all log t items i same past = ap (λ (l : List (ℕ × CallRec)). map mark_of (filter (is_mark_of log t) l)) (numbered_all_taken log items i same past)
 
-pub maker_all : (log : Log) (t : ℕ) (items : List CallRec) (i : ℕ) → items ≡ log.calls → length items ≤ i → maker_among log t i ≡ maker_of log t
+pub maker_all : (log : Log) (t : ℕ) (items : List CallRec) (i : ℕ) → items ≡ log.calls → length items ≤ i → maker_among log t i ≡ maker_number log t
 maker_all log t items i same past = ap (fold (maker_after log t) None) (numbered_all_taken log items i same past)
 
 -- the table, with one thread more
 pub order_more : (log : Log) (n : ℕ) (threads : List ThreadCalls) (maker : Option ℕ) (calls : List Mark)
-    → threads ≡ map (calls_of_thread log) (range_with_len 0 n) → maker ≡ maker_of log n → calls ≡ calls_of log n
+    → threads ≡ map (calls_of_thread log) (range_with_len 0 n) → maker ≡ maker_number log n → calls ≡ calls_of log n
     → threads ++ record { maker = maker; calls = calls } ∷ [] ≡ map (calls_of_thread log) (range_with_len 0 (n + 1))
 order_more log n threads maker calls so_far maker_is calls_are =
     let last : record { maker = maker; calls = calls } ≡ calls_of_thread log n =
     ap (λ (m : Option ℕ). let made : ThreadCalls = record { maker = m; calls = calls } in made) maker_is
-    ∙ ap (λ (l : List Mark). let made : ThreadCalls = record { maker = maker_of log n; calls = l } in made) calls_are in
+    ∙ ap (λ (l : List Mark). let made : ThreadCalls = record { maker = maker_number log n; calls = l } in made) calls_are in
     ap (λ (l : List ThreadCalls). l ++ record { maker = maker; calls = calls } ∷ []) so_far
     ∙ ap (λ (t : ThreadCalls). map (calls_of_thread log) (range_with_len 0 n) ++ t ∷ []) last
     ∙ sym (map-range_with_len_more (calls_of_thread log) 0 n n (omega arith))

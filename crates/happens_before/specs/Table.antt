@@ -7,6 +7,7 @@ use Rattle.odr_log.specs.declared.log.Call.TheVariants as call
 use Rattle.odr_log.specs.declared.log.CallRec.{CallRec}
 use Rattle.odr_log.specs.declared.log.Log.{Log}
 use Rattle.rv_model.specs.Run.{logged}
+use Rattle.rv_model.specs.Walk.{makes}
 use Rattle.rv_model.specs.CallsFit.{CallsFit}
 use Rattle.happens_before.specs.declared.table.Mark.{Mark}
 use Rattle.happens_before.specs.declared.table.ThreadCalls.{ThreadCalls}
@@ -14,11 +15,6 @@ use Rattle.happens_before.specs.declared.table.ThreadCalls.{ThreadCalls}
 -- whether the log counts the step of a record
 abbrev pub is_counted_record : Log → CallRec → Bool
 is_counted_record log r = nat_lt r.at (logged log r.tid).steps
-
--- whether a call made a thread
-abbrev pub makes : ℕ → Call → Bool
-makes thread (call.Spawn entry (Some child)) = nat_eq child thread
-makes thread other = false
 
 -- the records of a log with their numbers
 abbrev pub numbered : Log → List (ℕ × CallRec)
@@ -43,11 +39,11 @@ abbrev pub maker_after : Log → ℕ → Option ℕ → ℕ × CallRec → Optio
 maker_after log thread maker r = if is_maker log thread r.1 then Some r.0 else maker
 
 -- the number of the last counted spawn that made a thread
-abbrev pub maker_of : Log → ℕ → Option ℕ
-maker_of log thread = fold (maker_after log thread) None (numbered log)
+abbrev pub maker_number : Log → ℕ → Option ℕ
+maker_number log thread = fold (maker_after log thread) None (numbered log)
 
 abbrev pub calls_of_thread : Log → ℕ → ThreadCalls
-calls_of_thread log thread = record { maker = maker_of log thread; calls = calls_of log thread }
+calls_of_thread log thread = record { maker = maker_number log thread; calls = calls_of log thread }
 
 -- the counted calls of each thread
 abbrev pub order_of : Log → List ThreadCalls

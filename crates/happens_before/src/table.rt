@@ -2,7 +2,8 @@
 
 ghost use Rattle.std.specs.Prelude.{◌≡◌, IfOk};
 ghost use Rattle.rv_model.specs.Run.{logged};
-ghost use Rattle.happens_before.specs.Table.{is_counted_record, makes, is_call_of, is_maker, calls_of, maker_of, order_of};
+ghost use Rattle.rv_model.specs.Walk.{makes};
+ghost use Rattle.happens_before.specs.Table.{is_counted_record, is_call_of, is_maker, calls_of, maker_number, order_of};
 
 use odr_list::list::List;
 use odr_list::memory::Memory;
@@ -84,8 +85,8 @@ fn calls_of(alloc: Global, log: &Log, thread: usize) -> Result<List<Mark>, Memor
 }
 
 /// The number of the last counted spawn that made a thread.
-fn maker_of(log: &Log, thread: usize) -> Option<usize>
-    ensures { result ≡ maker_of log.now thread }
+fn maker_number(log: &Log, thread: usize) -> Option<usize>
+    ensures { result ≡ maker_number log.now thread }
 {
     let mut maker = None;
     for (number, made) in log.calls.as_slice().iter().enumerate() {
@@ -97,13 +98,13 @@ fn maker_of(log: &Log, thread: usize) -> Option<usize>
 }
 
 /// The counted calls of each thread of a log.
-pub fn order_of(alloc: Global, log: &Log) -> Result<List<ThreadCalls>, Memory>
+pub(crate) fn order_of(alloc: Global, log: &Log) -> Result<List<ThreadCalls>, Memory>
     ensures { IfOk result (λ order. order ≡ order_of log.now) }
 {
     let mut threads = Vec::new(alloc);
     for thread in 0..log.threads.len() {
         threads.push(ThreadCalls {
-            maker: maker_of(log, thread),
+            maker: maker_number(log, thread),
             calls: calls_of(alloc, log, thread)?,
         })?;
     }

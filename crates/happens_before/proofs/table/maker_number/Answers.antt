@@ -3,8 +3,8 @@ use Rattle.std.proofs.Common.{sym, ◌∙◌, ap, arith}
 use Rattle.std.proofs.lemmas.Bool.{cond-true, cond-false}
 use Rattle.happens_before.specs.Table.{is_maker}
 use Rattle.happens_before.proofs.TableLemmas.{maker_more, maker_all}
-use Rattle.happens_before.proofs.table.maker_of.Goals as goal
-use Rattle.happens_before.proofs.table.maker_of.Goals.{then-is_maker, else-is_maker}
+use Rattle.happens_before.proofs.table.maker_number.Goals as goal
+use Rattle.happens_before.proofs.table.maker_number.Goals.{then-is_maker, else-is_maker}
 
 pub loop-number-preserved : goal.loop-number-preserved
 loop-number-preserved c =
