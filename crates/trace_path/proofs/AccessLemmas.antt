@@ -29,19 +29,19 @@ accesses_any thread other step from (place ∷ places) (shown ∷ notes) =
 
 pub accesses_more : (thread step : ℕ) (places : List Place) (notes : List Note) (place : Place) (shown : Note) → length places ≡ length notes
     → length (accesses_from thread step (places ++ place ∷ []) (notes ++ shown ∷ []))
-        ≡ length (accesses_from thread step places notes) + cond (is_access place.instr shown) 1 0
+    ≡ length (accesses_from thread step places notes) + cond (is_access place.instr shown) 1 0
 accesses_more thread step [] [] place shown e =
     let one : length (accesses_from thread step (place ∷ []) (shown ∷ [])) ≡ cond (is_access place.instr shown) 1 0 + 0 = count_first thread step place [] shown [] in omega arith
 accesses_more thread step (p ∷ ps) (n ∷ ns) place shown e =
     let all : length (accesses_from thread step ((p ∷ ps) ++ place ∷ []) ((n ∷ ns) ++ shown ∷ []))
-            ≡ cond (is_access p.instr n) 1 0 + length (accesses_from thread (step + 1) (ps ++ place ∷ []) (ns ++ shown ∷ [])) =
-        count_first thread step p (ps ++ place ∷ []) n (ns ++ shown ∷ []) in
+    ≡ cond (is_access p.instr n) 1 0 + length (accesses_from thread (step + 1) (ps ++ place ∷ []) (ns ++ shown ∷ [])) =
+    count_first thread step p (ps ++ place ∷ []) n (ns ++ shown ∷ []) in
     let front : length (accesses_from thread step (p ∷ ps) (n ∷ ns)) ≡ cond (is_access p.instr n) 1 0 + length (accesses_from thread (step + 1) ps ns) =
-        count_first thread step p ps n ns in
+    count_first thread step p ps n ns in
     let later : length (accesses_from thread (step + 1) (ps ++ place ∷ []) (ns ++ shown ∷ [])) ≡ length (accesses_from thread (step + 1) ps ns) + cond (is_access place.instr shown) 1 0 =
-        accesses_more thread (step + 1) ps ns place shown (let h : suc (length ps) ≡ suc (length ns) = e in omega arith) in
+    accesses_more thread (step + 1) ps ns place shown (let h : suc (length ps) ≡ suc (length ns) = e in omega arith) in
     all ∙ (let sum : cond (is_access p.instr n) 1 0 + length (accesses_from thread (step + 1) (ps ++ place ∷ []) (ns ++ shown ∷ []))
-              ≡ length (accesses_from thread step (p ∷ ps) (n ∷ ns)) + cond (is_access place.instr shown) 1 0 = omega arith in sum)
+    ≡ length (accesses_from thread step (p ∷ ps) (n ∷ ns)) + cond (is_access place.instr shown) 1 0 = omega arith in sum)
 accesses_more thread step [] (n ∷ ns) place shown e = absurd (let h : 0 ≡ suc (length ns) = e in omega arith)
 accesses_more thread step (p ∷ ps) [] place shown e = absurd (let h : suc (length ps) ≡ 0 = e in omega arith)
 
@@ -54,11 +54,11 @@ threads_more thread other [] [] places notes e =
 threads_more thread other (p ∷ ps) (n ∷ ns) places notes e =
     let first : List Pos = accesses_from thread 0 p n in
     let all : length (first ++ accesses_by (thread + 1) (ps ++ places ∷ []) (ns ++ notes ∷ [])) ≡ length first + length (accesses_by (thread + 1) (ps ++ places ∷ []) (ns ++ notes ∷ [])) =
-        length-append first (accesses_by (thread + 1) (ps ++ places ∷ []) (ns ++ notes ∷ [])) in
+    length-append first (accesses_by (thread + 1) (ps ++ places ∷ []) (ns ++ notes ∷ [])) in
     let front : length (first ++ accesses_by (thread + 1) ps ns) ≡ length first + length (accesses_by (thread + 1) ps ns) = length-append first (accesses_by (thread + 1) ps ns) in
     let later : length (accesses_by (thread + 1) (ps ++ places ∷ []) (ns ++ notes ∷ [])) ≡ length (accesses_by (thread + 1) ps ns) + length (accesses_from other 0 places notes) =
-        threads_more (thread + 1) other ps ns places notes (let h : suc (length ps) ≡ suc (length ns) = e in omega arith) in
+    threads_more (thread + 1) other ps ns places notes (let h : suc (length ps) ≡ suc (length ns) = e in omega arith) in
     all ∙ (let sum : length first + length (accesses_by (thread + 1) (ps ++ places ∷ []) (ns ++ notes ∷ []))
-              ≡ length (first ++ accesses_by (thread + 1) ps ns) + length (accesses_from other 0 places notes) = omega arith in sum)
+    ≡ length (first ++ accesses_by (thread + 1) ps ns) + length (accesses_from other 0 places notes) = omega arith in sum)
 threads_more thread other [] (n ∷ ns) places notes e = absurd (let h : 0 ≡ suc (length ns) = e in omega arith)
 threads_more thread other (p ∷ ps) [] places notes e = absurd (let h : suc (length ps) ≡ 0 = e in omega arith)

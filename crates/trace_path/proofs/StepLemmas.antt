@@ -124,7 +124,14 @@ parts_of : (image : Layout) (thread : ℕ) (from : Stand) (i : Instr) (t : Told)
     → goes_to from.pc (transfer_of from.pc i) t.shown ≡ Some pc → Fits thread from.step from.path from.records t
     → Parts image thread from (stepped from i t pc).place (stepped from i t pc).shown (stepped from i t pc).stand
 parts_of image thread from i t pc going fetched goes fits = record {
-  going = going; pc = refl; instr = fetched; goes = goes; step = refl; over = refl; path = fits.0; records = fits.1;
+  going = going;
+  pc = refl;
+  instr = fetched;
+  goes = goes;
+  step = refl;
+  over = refl;
+  path = fits.0;
+  records = fits.1;
 }
 
 pub next_parts : (image : Layout) (thread : ℕ) (from : Stand) (n : Next) → FirstOf thread from.records → next image from ≡ Some n
@@ -147,9 +154,9 @@ parts_next image thread from place shown to p =
     let how : Transfer = transfer_of from.pc place.instr in
     let left : Told = record { shown = shown; path = to.path; records = to.records } in
     let tells : told from.step how from.path from.records ≡ Some left =
-        ap (λ (path : List PathItem). told from.step how path from.records) p.path
-        ∙ ap (told from.step how (cons_some (item_of shown) to.path)) p.records
-        ∙ fits_told thread from.step from.pc to.pc how shown to.path to.records p.goes in
+    ap (λ (path : List PathItem). told from.step how path from.records) p.path
+    ∙ ap (told from.step how (cons_some (item_of shown) to.path)) p.records
+    ∙ fits_told thread from.step from.pc to.pc how shown to.path to.records p.goes in
     ap (λ (b : Bool). cond b None (goes_by from (instr_at image from.pc))) p.going
     ∙ ap (goes_by from) p.instr
     ∙ ap (goes_as_told from place.instr) tells

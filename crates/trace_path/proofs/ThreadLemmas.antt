@@ -49,7 +49,7 @@ front_more image log thread start count places accesses cursor advanced bit fron
       ap (λ (n : ℕ). n + bit) front.counted
       ∙ ap (λ (n : ℕ). length (accesses_from thread 0 places front.notes) + n) one
       ∙ sym (accesses_more thread 0 places front.notes advanced.place (note_of advanced.shown)
-        (walked_lengths image (begin log thread start) (stand_at log thread count cursor) places front.notes front.walked));
+      (walked_lengths image (begin log thread start) (stand_at log thread count cursor) places front.notes front.walked));
   few =
       let few : accesses ≤ count = front.few in
       let small : cond (is_access advanced.place.instr (note_of advanced.shown)) 1 0 ≤ 1 = at_most_one (is_access advanced.place.instr (note_of advanced.shown)) in omega arith;
@@ -81,9 +81,9 @@ thread_one image log thread places others notes shown walk other =
     let again : UsedUp image (begin log thread other.start) others shown other.after = thread_used image log thread others shown other in
     let start : walk.start ≡ other.start = begins_one image log thread walk.start other.start walk.begins other.begins in
     let walked : Walked image (begin log thread other.start) places notes used.to =
-        subst (λ (s : ℕ). Walked image (begin log thread s) places notes used.to) start used.walked in
+    subst (λ (s : ℕ). Walked image (begin log thread s) places notes used.to) start used.walked in
     let same : Same places others notes shown used.to again.to =
-        walked_one image (begin log thread other.start) places others notes shown used.to again.to (walk.steps ∙ sym other.steps) walked again.walked in
+    walked_one image (begin log thread other.start) places others notes shown used.to again.to (walk.steps ∙ sym other.steps) walked again.walked in
     record {
       places_same = same.places_same;
       notes_same = same.notes_same;
@@ -107,8 +107,8 @@ left_none image log thread start places accesses cursor begins front left others
     let same : walk.start ≡ start = begins_one image log thread walk.start start walk.begins begins in
     let walked : Walked image (begin log thread start) others notes used.to = subst (λ (s : ℕ). Walked image (begin log thread s) others notes used.to) same used.walked in
     let stands : Same others places notes front.notes used.to (stand_at log thread (logged log thread).steps cursor) =
-        walked_one image (begin log thread start) others places notes front.notes used.to (stand_at log thread (logged log thread).steps cursor)
-        (walk.steps ∙ sym front.steps) walked front.walked in
+    walked_one image (begin log thread start) others places notes front.notes used.to (stand_at log thread (logged log thread).steps cursor)
+    (walk.steps ∙ sym front.steps) walked front.walked in
     left (ap (λ (s : Stand). s.path) (sym stands.stands_same) ∙ used.path, ap (λ (s : Stand). s.records) (sym stands.stands_same) ∙ used.records)
 
 pub all_followed : (image : Layout) (log : Log) (thread start : ℕ) (places : List Place) (accesses : ℕ) (cursor : Cursor) → BeginsAt image log thread start
@@ -117,8 +117,8 @@ pub all_followed : (image : Layout) (log : Log) (thread start : ℕ) (places : L
     → IsFollowed image log thread (record { places = places; accesses = accesses; stop = record { pc = cursor.pc; over = cursor.over } })
 all_followed image log thread start places accesses cursor begins front path records few number =
     let along : Along image thread (begin log thread start) places front.notes (stand_at log thread (logged log thread).steps cursor) =
-        walked_along image thread (begin log thread start) places front.notes (stand_at log thread (logged log thread).steps cursor)
-        (own_records thread log.calls) front.walked in
+    walked_along image thread (begin log thread start) places front.notes (stand_at log thread (logged log thread).steps cursor)
+    (own_records thread log.calls) front.walked in
     record {
       notes = front.notes;
       stops = record {

@@ -107,9 +107,9 @@ along_more : (image : Layout) (thread : ℕ) (from mid to : Stand) (place : Plac
     → Parts image thread from place shown mid → Along image thread mid places notes to → Along image thread from (place ∷ places) (shown ∷ notes) to
 along_more image thread from mid to place places shown notes p along =
     let path : mid.path ≡ path_of thread (events_from thread (from.step + 1) notes) ++ to.path =
-        along.path ∙ ap (λ (s : ℕ). path_of thread (events_from thread s notes) ++ to.path) p.step in
+    along.path ∙ ap (λ (s : ℕ). path_of thread (events_from thread s notes) ++ to.path) p.step in
     let records : mid.records ≡ records_of (events_from thread (from.step + 1) notes) ++ to.records =
-        along.records ∙ ap (λ (s : ℕ). records_of (events_from thread s notes) ++ to.records) p.step in
+    along.records ∙ ap (λ (s : ℕ). records_of (events_from thread s notes) ++ to.records) p.step in
     record {
       leads = (p.pc, p.instr, (mid.pc, p.goes, along.leads));
       path =
@@ -156,24 +156,24 @@ pub leads_walked : (image : Layout) (thread : ℕ) (from : Stand) (places : List
 leads_walked image thread from [] [] after leads path records ends going = record { to = from; walked = refl; pc = leads; path = path; records = records }
 leads_walked image thread from (place ∷ places) (shown ∷ notes) after leads path records ends going =
     let mid : Stand = record {
-          pc = leads.2.0;
-          step = from.step + 1;
-          over = is_last shown;
-          path = path_of thread (events_from thread (from.step + 1) notes);
-          records = records_of (events_from thread (from.step + 1) notes);
-        } in
+      pc = leads.2.0;
+      step = from.step + 1;
+      over = is_last shown;
+      path = path_of thread (events_from thread (from.step + 1) notes);
+      records = records_of (events_from thread (from.step + 1) notes);
+    } in
     let p : Parts image thread from place shown mid = record {
-          going = not_true from.over (λ (over : from.over ≡ true). let f : shown ∷ notes ≡ [] = going over in cc);
-          pc = leads.0;
-          instr = leads.1;
-          goes = leads.2.1;
-          step = refl;
-          over = refl;
-          path = path ∙ path_own thread from.step shown notes;
-          records = records;
-        } in
+      going = not_true from.over (λ (over : from.over ≡ true). let f : shown ∷ notes ≡ [] = going over in cc);
+      pc = leads.0;
+      instr = leads.1;
+      goes = leads.2.1;
+      step = refl;
+      over = refl;
+      path = path ∙ path_own thread from.step shown notes;
+      records = records;
+    } in
     let later : UsedUp image mid places notes after =
-        leads_walked image thread mid places notes after leads.2.2 refl refl (end_rest shown notes ends) (end_first shown notes ends) in
+    leads_walked image thread mid places notes after leads.2.2 refl refl (end_rest shown notes ends) (end_first shown notes ends) in
     record { to = later.to; walked = (mid, parts_next image thread from place shown mid p, later.walked); pc = later.pc; path = later.path; records = later.records }
 leads_walked image thread from [] (shown ∷ notes) after leads path records ends going = absurd leads
 leads_walked image thread from (place ∷ places) [] after leads path records ends going = absurd leads
@@ -192,7 +192,7 @@ walked_one image from (p ∷ ps) (q ∷ qs) (n ∷ ns) (m ∷ ms) to stand e w v
     let same = some_same (record { place = p; shown = n; stand = w.0 }) (record { place = q; shown = m; stand = v.0 }) (sym w.1 ∙ v.1) in
     let mid : w.0 ≡ v.0 = ap (λ (x : Next). x.stand) same in
     let later : Same ps qs ns ms to stand =
-        walked_one image v.0 ps qs ns ms to stand (omega arith) (subst (λ (s : Stand). Walked image s ps ns to) mid w.2) v.2 in
+    walked_one image v.0 ps qs ns ms to stand (omega arith) (subst (λ (s : Stand). Walked image s ps ns to) mid w.2) v.2 in
     record {
       places_same = ap (λ (x : Next). x.place ∷ ps) same ∙ ap (λ (xs : List Place). q ∷ xs) later.places_same;
       notes_same = ap (λ (x : Next). x.shown ∷ ns) same ∙ ap (λ (xs : List Note). m ∷ xs) later.notes_same;

@@ -40,25 +40,25 @@ pub gathered_more : (image : Layout) (log : Log) (count : ℕ) (g : Gathered) (f
     → IsGathered image log (count + 1) (record { places = g.places ++ f.places ∷ []; stops = g.stops ++ f.stop ∷ []; accesses = g.accesses + f.accesses })
 gathered_more image log count g f all one =
     let before : (thread : ℕ) → thread < count
-          → StopsAt image log thread (get_or (g.places ++ f.places ∷ []) thread []) (get_or (all.notes ++ one.notes ∷ []) thread []) (get_or (g.stops ++ f.stop ∷ []) thread no_stop) =
-        λ (thread : ℕ) (w : thread < count).
-        let places : length g.places ≡ count = all.places_count in
-        let notes : length all.notes ≡ count = all.notes_count in
-        let stops : length g.stops ≡ count = all.stops_count in
-        stops_by image log thread (get_or g.places thread []) (get_or (g.places ++ f.places ∷ []) thread [])
-        (get_or all.notes thread []) (get_or (all.notes ++ one.notes ∷ []) thread [])
-        (get_or g.stops thread no_stop) (get_or (g.stops ++ f.stop ∷ []) thread no_stop)
-        (sym (get_or_append_left g.places (f.places ∷ []) [] thread (omega arith)))
-        (sym (get_or_append_left all.notes (one.notes ∷ []) [] thread (omega arith)))
-        (sym (get_or_append_left g.stops (f.stop ∷ []) no_stop thread (omega arith)))
-        (all.each thread w) in
+    → StopsAt image log thread (get_or (g.places ++ f.places ∷ []) thread []) (get_or (all.notes ++ one.notes ∷ []) thread []) (get_or (g.stops ++ f.stop ∷ []) thread no_stop) =
+    λ (thread : ℕ) (w : thread < count).
+    let places : length g.places ≡ count = all.places_count in
+    let notes : length all.notes ≡ count = all.notes_count in
+    let stops : length g.stops ≡ count = all.stops_count in
+    stops_by image log thread (get_or g.places thread []) (get_or (g.places ++ f.places ∷ []) thread [])
+    (get_or all.notes thread []) (get_or (all.notes ++ one.notes ∷ []) thread [])
+    (get_or g.stops thread no_stop) (get_or (g.stops ++ f.stop ∷ []) thread no_stop)
+    (sym (get_or_append_left g.places (f.places ∷ []) [] thread (omega arith)))
+    (sym (get_or_append_left all.notes (one.notes ∷ []) [] thread (omega arith)))
+    (sym (get_or_append_left g.stops (f.stop ∷ []) no_stop thread (omega arith)))
+    (all.each thread w) in
     let here : StopsAt image log count (get_or (g.places ++ f.places ∷ []) count []) (get_or (all.notes ++ one.notes ∷ []) count []) (get_or (g.stops ++ f.stop ∷ []) count no_stop) =
-        stops_by image log count f.places (get_or (g.places ++ f.places ∷ []) count []) one.notes (get_or (all.notes ++ one.notes ∷ []) count [])
-        f.stop (get_or (g.stops ++ f.stop ∷ []) count no_stop)
-        (sym (get_or_at g.places f.places [] [] count all.places_count))
-        (sym (get_or_at all.notes one.notes [] [] count all.notes_count))
-        (sym (get_or_at g.stops f.stop [] no_stop count all.stops_count))
-        one.stops in
+    stops_by image log count f.places (get_or (g.places ++ f.places ∷ []) count []) one.notes (get_or (all.notes ++ one.notes ∷ []) count [])
+    f.stop (get_or (g.stops ++ f.stop ∷ []) count no_stop)
+    (sym (get_or_at g.places f.places [] [] count all.places_count))
+    (sym (get_or_at all.notes one.notes [] [] count all.notes_count))
+    (sym (get_or_at g.stops f.stop [] no_stop count all.stops_count))
+    one.stops in
     record {
       notes = all.notes ++ one.notes ∷ [];
       places_count = length_push g.places f.places ∙ ap (λ (n : ℕ). n + 1) all.places_count;
@@ -95,9 +95,10 @@ fault_by : (image : Layout) (log : Log) (thread : ℕ) (cause : Cause) (places :
     → (Some (at_stop image stop) ≡ fault) × FaultsAt image log thread cause places notes (at_stop image stop)
 fault_by image log thread cause places notes stop fault stops e =
     let found = faults_case (not stop.over && may_fault cause stop.pc (instr_at image stop.pc)) (at_stop image stop) fault e in
-    let both = and_parts (not stop.over) (may_fault cause stop.pc (instr_at image stop.pc)) found.0 in
-    ( found.1
-    , record { walk = stops.walk; live = stops.live.0 (not_over stop.over both.0); pc = stops.pc; fits = both.1; instr = refl } )
+    let both = and_parts (not stop.over) (may_fault cause stop.pc (instr_at image stop.pc)) found.0 in (
+      found.1,
+      record { walk = stops.walk; live = stops.live.0 (not_over stop.over both.0); pc = stops.pc; fits = both.1; instr = refl },
+    )
 
 fault_from : (image : Layout) (log : Log) (walk : Walk) (stops : List Stop) (thread : ℕ) (cause : Cause) (o : Option Stop) (fault : Option FaultPlace)
     → length stops ≡ length log.threads
@@ -109,7 +110,7 @@ fault_from image log walk stops thread cause (Some stop) fault count each got e 
     let within : thread < length stops = slice_get_within stops thread stop got in
     let inside : thread < length log.threads = omega arith in
     let stops_at : StopsAt image log thread (places_of walk thread) (notes_of walk thread) stop =
-        subst (λ (s : Stop). StopsAt image log thread (places_of walk thread) (notes_of walk thread) s) (get_or_from_slice_get stops thread stop no_stop got) (each thread inside) in
+    subst (λ (s : Stop). StopsAt image log thread (places_of walk thread) (notes_of walk thread) s) (get_or_from_slice_get stops thread stop no_stop got) (each thread inside) in
     let found = fault_by image log thread cause (places_of walk thread) (notes_of walk thread) stop fault stops_at e in
     subst (FaultFits image log walk (end.Faulted thread cause)) found.0 (inside, found.1)
 
@@ -152,7 +153,7 @@ fault_given image log thread cause places others notes shown stop at stops fault
     let pc : at.pc ≡ stop.pc = faults.pc ∙ same.stops_same ∙ sym stops.pc in
     let live : stop.over ≡ false = stops.live.1 (subst (All (λ (x : Note). is_last x ≡ false)) same.notes_same faults.live) in
     let fits : may_fault cause stop.pc (instr_at image stop.pc) ≡ true =
-        subst (λ (p : ℕ). may_fault cause p (instr_at image p) ≡ true) pc faults.fits in
+    subst (λ (p : ℕ). may_fault cause p (instr_at image p) ≡ true) pc faults.fits in
     ap (λ (b : Bool). cond b (Some (at_stop image stop)) None)
     (and_from (not stop.over) (may_fault cause stop.pc (instr_at image stop.pc)) (ap not live) fits)
 
@@ -166,10 +167,10 @@ fault_there image log walk g thread cause (Some at) all fits e =
     let stop : Stop = get_or g.stops thread no_stop in
     let got : slice_get g.stops thread ≡ Some stop = slice_get-get_or g.stops thread no_stop (omega arith) in
     let given : faults_at image stop cause ≡ Some (at_stop image stop) =
-        fault_given image log thread cause (get_or g.places thread []) (places_of walk thread) (get_or all.notes thread []) (notes_of walk thread) stop at (all.each thread inside) fits.1 in
+    fault_given image log thread cause (get_or g.places thread []) (places_of walk thread) (get_or all.notes thread []) (notes_of walk thread) stop at (all.each thread inside) fits.1 in
     let found : fault_of image g.stops (end.Faulted thread cause) ≡ Some (Some (at_stop image stop)) =
-        ap (λ (o : Option Stop). option_map (λ (x : FaultPlace). Some x) (faults_by image o cause)) got
-        ∙ ap (option_map (λ (x : FaultPlace). Some x)) given in
+    ap (λ (o : Option Stop). option_map (λ (x : FaultPlace). Some x) (faults_by image o cause)) got
+    ∙ ap (option_map (λ (x : FaultPlace). Some x)) given in
     let f : None ≡ Some (Some (at_stop image stop)) = sym e ∙ found in cc
 
 fault_by_end : (image : Layout) (log : Log) (walk : Walk) (g : Gathered) (ended : End) (fault : Option FaultPlace)
@@ -208,11 +209,11 @@ walks_one image log walk other a b =
     let count : length walk.places ≡ length log.threads = a.places in
     let notes_count : length walk.notes ≡ length log.threads = a.notes in
     let same : (t : ℕ) → (w : t < length log.threads) → SameWalks (places_of walk t) (places_of other t) (notes_of walk t) (notes_of other t) (a.each t w).after (b.each t w).after =
-        λ (t : ℕ) (w : t < length log.threads). thread_one image log t (places_of walk t) (places_of other t) (notes_of walk t) (notes_of other t) (a.each t w) (b.each t w) in
+    λ (t : ℕ) (w : t < length log.threads). thread_one image log t (places_of walk t) (places_of other t) (notes_of walk t) (notes_of other t) (a.each t w) (b.each t w) in
     let places : walk.places ≡ other.places =
-        ext_get_or [] walk.places other.places (a.places ∙ sym b.places) (λ (t : ℕ) (w : t < length walk.places). (same t (omega arith)).places_same) in
+    ext_get_or [] walk.places other.places (a.places ∙ sym b.places) (λ (t : ℕ) (w : t < length walk.places). (same t (omega arith)).places_same) in
     let notes : walk.notes ≡ other.notes =
-        ext_get_or [] walk.notes other.notes (a.notes ∙ sym b.notes) (λ (t : ℕ) (w : t < length walk.notes). (same t (omega arith)).notes_same) in
+    ext_get_or [] walk.notes other.notes (a.notes ∙ sym b.notes) (λ (t : ℕ) (w : t < length walk.notes). (same t (omega arith)).notes_same) in
     let fault : walk.fault ≡ other.fault = fault_one image log walk other log.end walk.fault other.fault a.fault b.fault in
     ap (λ (p : List (List Place)). let v : Walk = record { places = p; notes = walk.notes; fault = walk.fault } in v) places
     ∙ ap (λ (n : List (List Note)). let v : Walk = record { places = other.places; notes = n; fault = walk.fault } in v) notes

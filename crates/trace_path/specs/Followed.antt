@@ -53,7 +53,7 @@ pub record IsGathered (image : Layout) (log : Log) (count : ℕ) (gathered : Gat
   pub notes_count : length notes ≡ count
   pub stops_count : length gathered.stops ≡ count
   pub each : (thread : ℕ) → thread < count
-    → StopsAt image log thread (slice_index_or gathered.places thread []) (slice_index_or notes thread []) (slice_index_or gathered.stops thread no_stop)
+      → StopsAt image log thread (slice_index_or gathered.places thread []) (slice_index_or notes thread []) (slice_index_or gathered.stops thread no_stop)
   pub counted : gathered.accesses ≡ length (accesses_by 0 gathered.places notes)
   pub few : gathered.accesses ≤ count * 2 ^ 32
   pub number : count ≤ 2 ^ 8

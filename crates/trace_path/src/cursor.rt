@@ -89,8 +89,8 @@ pub fn next_record(records: &[CallRec], thread: usize, from: usize) -> Option<us
 }
 
 /// What the log tells of a JALR.
-fn told_jump<'a>(log: &'a Log, thread: usize, step: u32, cursor: &Cursor) -> Option<Told<'a>>
-    ensures { option_map (told_by log.now thread) result ≡ told step Transfer.Indirect (drop cursor.now.items (logged log.now thread).path) (records_by thread (drop cursor.now.calls log.now.calls)) }
+fn told_jump<'a>(log: &'a Log, thread: usize, cursor: &Cursor) -> Option<Told<'a>>
+    ensures { (step : ℕ) → option_map (told_by log.now thread) result ≡ told step Transfer.Indirect (drop cursor.now.items (logged log.now thread).path) (records_by thread (drop cursor.now.calls log.now.calls)) }
 {
     let target = jump_at(path_logged(log, thread), cursor.items)?;
     Some(Told {
@@ -101,8 +101,8 @@ fn told_jump<'a>(log: &'a Log, thread: usize, step: u32, cursor: &Cursor) -> Opt
 }
 
 /// What the log tells of a branch.
-fn told_branch<'a>(log: &'a Log, thread: usize, step: u32, cursor: &Cursor) -> Option<Told<'a>>
-    ensures { (target : ℕ) → option_map (told_by log.now thread) result ≡ told step (Transfer.Branch target) (drop cursor.now.items (logged log.now thread).path) (records_by thread (drop cursor.now.calls log.now.calls)) }
+fn told_branch<'a>(log: &'a Log, thread: usize, cursor: &Cursor) -> Option<Told<'a>>
+    ensures { (step target : ℕ) → option_map (told_by log.now thread) result ≡ told step (Transfer.Branch target) (drop cursor.now.items (logged log.now thread).path) (records_by thread (drop cursor.now.calls log.now.calls)) }
 {
     let taken = branch_at(path_logged(log, thread), cursor.items)?;
     Some(Told {
@@ -144,8 +144,8 @@ pub fn next_told<'a>(
             items: cursor.items,
             calls: cursor.calls,
         }),
-        Transfer::Indirect => told_jump(log, thread, step, cursor),
-        Transfer::Branch { .. } => told_branch(log, thread, step, cursor),
+        Transfer::Indirect => told_jump(log, thread, cursor),
+        Transfer::Branch { .. } => told_branch(log, thread, cursor),
         Transfer::Call => told_call(log, thread, step, cursor),
         Transfer::Breakpoint => None,
     }

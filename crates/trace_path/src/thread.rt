@@ -48,7 +48,8 @@ fn makes(thread: usize, call: &Call) -> bool
 {
     match call {
         Call::Spawn {
-            child: Some(child), ..
+            child: Some(child),
+            ..
         } => usize::from(*child) == thread,
         _ => false,
     }

@@ -8,11 +8,11 @@ use Rattle.trace_path.proofs.ToldLemmas.{branch_told}
 use Rattle.trace_path.proofs.cursor.told_branch.Goals as goal
 
 pub returns-in_err-taken : goal.returns-in_err-taken
-returns-in_err-taken c target =
+returns-in_err-taken c step target =
     ap (option_map (told_by c.args.log.now c.args.thread)) c.from_residual.ensures
-    ∙ branch_told c.args.step target c.args.cursor.now.items (logged c.args.log.now c.args.thread).path (records_by c.args.thread (drop c.args.cursor.now.calls c.args.log.now.calls)) None
+    ∙ branch_told step target c.args.cursor.now.items (logged c.args.log.now c.args.thread).path (records_by c.args.thread (drop c.args.cursor.now.calls c.args.log.now.calls)) None
     (c.in_err-taken.ensures.value ∙ ap (λ (p : List PathItem). branch_of (slice_get p c.args.cursor.now.items)) c.path_logged.ensures)
 
 pub returns : goal.returns
-returns c target = branch_told c.args.step target c.args.cursor.now.items (logged c.args.log.now c.args.thread).path (records_by c.args.thread (drop c.args.cursor.now.calls c.args.log.now.calls)) _
+returns c step target = branch_told step target c.args.cursor.now.items (logged c.args.log.now c.args.thread).path (records_by c.args.thread (drop c.args.cursor.now.calls c.args.log.now.calls)) _
     (c.in_ok-taken.ensures.value ∙ ap (λ (p : List PathItem). branch_of (slice_get p c.args.cursor.now.items)) c.path_logged.ensures)

@@ -8,11 +8,11 @@ use Rattle.trace_path.proofs.ToldLemmas.{jump_told}
 use Rattle.trace_path.proofs.cursor.told_jump.Goals as goal
 
 pub returns-in_err-target : goal.returns-in_err-target
-returns-in_err-target c =
+returns-in_err-target c step =
     ap (option_map (told_by c.args.log.now c.args.thread)) c.from_residual.ensures
-    ∙ jump_told c.args.step c.args.cursor.now.items (logged c.args.log.now c.args.thread).path (records_by c.args.thread (drop c.args.cursor.now.calls c.args.log.now.calls)) None
+    ∙ jump_told step c.args.cursor.now.items (logged c.args.log.now c.args.thread).path (records_by c.args.thread (drop c.args.cursor.now.calls c.args.log.now.calls)) None
     (c.in_err-target.ensures.value ∙ ap (λ (p : List PathItem). jump_of (slice_get p c.args.cursor.now.items)) c.path_logged.ensures)
 
 pub returns : goal.returns
-returns c = jump_told c.args.step c.args.cursor.now.items (logged c.args.log.now c.args.thread).path (records_by c.args.thread (drop c.args.cursor.now.calls c.args.log.now.calls)) _
+returns c step = jump_told step c.args.cursor.now.items (logged c.args.log.now c.args.thread).path (records_by c.args.thread (drop c.args.cursor.now.calls c.args.log.now.calls)) _
     (c.in_ok-target.ensures.value ∙ ap (λ (p : List PathItem). jump_of (slice_get p c.args.cursor.now.items)) c.path_logged.ensures)
