@@ -1,9 +1,7 @@
 -- What an order keeps of a log: the counted calls of each thread, by the numbers of their records. Calls at steps that
 -- the log doesn't count are in no order.
-use Rattle.std.specs.Prelude.{◌≡◌, ℕ, Bool, false, ◌&&◌, List, [], length, map, filter, nat_eq, nat_lt, slice_index_or, Option, Some, None, fold, if◌then◌else◌}
+use Rattle.std.specs.Prelude.{◌≡◌, ℕ, Bool, ◌&&◌, List, [], length, map, filter, nat_eq, nat_lt, slice_index_or, Option, Some, None, fold, if◌then◌else◌}
 use Rattle.std.specs.List.{enumerate_from, range_with_len}
-use Rattle.odr_log.specs.declared.log.Call.{Call}
-use Rattle.odr_log.specs.declared.log.Call.TheVariants as call
 use Rattle.odr_log.specs.declared.log.CallRec.{CallRec}
 use Rattle.odr_log.specs.declared.log.Log.{Log}
 use Rattle.rv_model.specs.Run.{logged}
