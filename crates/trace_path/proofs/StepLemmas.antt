@@ -18,7 +18,7 @@ use Rattle.rv_model.specs.declared.walk.Transfer.TheVariants as transfer
 use Rattle.rv_model.specs.Step.{instr_at}
 use Rattle.rv_model.specs.Run.{item_of, cons_some, record_in}
 use Rattle.rv_model.specs.Walk.{transfer_of, goes_to, is_last}
-use Rattle.trace_path.specs.Steps.{Stand, Told, Next, told, called_at, gone, goes_as_told, goes_by, next}
+use Rattle.trace_path.specs.Steps.{Stand, Telling, Next, told, called_at, gone, goes_as_told, goes_by, next}
 
 pub some_same : {A : Type 0} (x y : A) → Some x ≡ Some y → x ≡ y
 some_same x y e = cc
@@ -28,18 +28,18 @@ abbrev pub event_at : ℕ → ℕ → Note → Event
 event_at thread step shown = record { thread = thread; at = step; note = shown }
 
 -- what is told is the step's item and record, before what is left
-abbrev pub Fits : ℕ → ℕ → List PathItem → List CallRec → Told → Type 0
+abbrev pub Fits : ℕ → ℕ → List PathItem → List CallRec → Telling → Type 0
 Fits thread step path records tells =
     (path ≡ cons_some (item_of tells.shown) tells.path) × (records ≡ cons_some (record_in (event_at thread step tells.shown)) tells.records)
 
-fits_by : (thread step : ℕ) (path : List PathItem) (records : List CallRec) (x y : Told) → Some x ≡ Some y → Fits thread step path records x → Fits thread step path records y
+fits_by : (thread step : ℕ) (path : List PathItem) (records : List CallRec) (x y : Telling) → Some x ≡ Some y → Fits thread step path records x → Fits thread step path records y
 fits_by thread step path records x y e fits = subst (Fits thread step path records) (some_same x y e) fits
 
 whole_record : (thread step : ℕ) (r : CallRec) → r.tid ≡ thread → r.at ≡ step → r ≡ record { tid = thread; at = step; call = r.call }
 whole_record thread step r same there =
     ap (λ (t : ℕ). let x : CallRec = record { tid = t; at = r.at; call = r.call } in x) same ∙ ap (λ (a : ℕ). let x : CallRec = record { tid = thread; at = a; call = r.call } in x) there
 
-called_fits : (b : Bool) (thread step : ℕ) (path : List PathItem) (r : CallRec) (records : List CallRec) (t : Told) → r.tid ≡ thread → nat_eq r.at step ≡ b
+called_fits : (b : Bool) (thread step : ℕ) (path : List PathItem) (r : CallRec) (records : List CallRec) (t : Telling) → r.tid ≡ thread → nat_eq r.at step ≡ b
     → cond b (Some (record { shown = note.Called r.call; path = path; records = records })) None ≡ Some t → Fits thread step path (r ∷ records) t
 called_fits true thread step path r records t same there e =
     fits_by thread step path (r ∷ records) (record { shown = note.Called r.call; path = path; records = records }) t e
@@ -51,7 +51,7 @@ abbrev pub FirstOf : ℕ → List CallRec → Type 0
 FirstOf thread [] = Unit {0}
 FirstOf thread (r ∷ records) = r.tid ≡ thread
 
-pub told_fits : (thread step : ℕ) (how : Transfer) (path : List PathItem) (records : List CallRec) (t : Told) → FirstOf thread records
+pub told_fits : (thread step : ℕ) (how : Transfer) (path : List PathItem) (records : List CallRec) (t : Telling) → FirstOf thread records
     → told step how path records ≡ Some t → Fits thread step path records t
 told_fits thread step transfer.Next path records t mine e = fits_by thread step path records (record { shown = note.Nothing; path = path; records = records }) t e (refl, refl)
 told_fits thread step (transfer.Direct target) path records t mine e = fits_by thread step path records (record { shown = note.Nothing; path = path; records = records }) t e (refl, refl)
@@ -81,7 +81,7 @@ fits_told thread step pc to transfer.Indirect (note.Jump target) path records e 
 fits_told thread step pc to (transfer.Branch target) (note.Branch true) path records e = refl
 fits_told thread step pc to (transfer.Branch target) (note.Branch false) path records e = refl
 fits_told thread step pc to transfer.Call (note.Called made) path records e =
-    ap (λ (b : Bool). cond b (Some (let t : Told = record { shown = note.Called made; path = path; records = records } in t)) None) (eq-eqb step step refl)
+    ap (λ (b : Bool). cond b (Some (let t : Telling = record { shown = note.Called made; path = path; records = records } in t)) None) (eq-eqb step step refl)
 fits_told thread step pc to how shown path records e = absurd (let f : None ≡ Some to = e in cc)
 
 -- a step, in the words of walks
@@ -104,23 +104,23 @@ fetched_case : (from : Stand) (f : Result Instr Cause) (n : Next) → goes_by fr
 fetched_case from (Ok i) n e = (i, refl, e)
 fetched_case from (Err fault) n e = absurd (let f : None ≡ Some n = e in cc)
 
-told_case : (from : Stand) (i : Instr) (o : Option Told) (n : Next) → goes_as_told from i o ≡ Some n
-    → (t : Told) × (o ≡ Some t) × (gone from i t (goes_to from.pc (transfer_of from.pc i) t.shown) ≡ Some n)
+told_case : (from : Stand) (i : Instr) (o : Option Telling) (n : Next) → goes_as_told from i o ≡ Some n
+    → (t : Telling) × (o ≡ Some t) × (gone from i t (goes_to from.pc (transfer_of from.pc i) t.shown) ≡ Some n)
 told_case from i (Some t) n e = (t, refl, e)
 told_case from i None n e = absurd (let f : None ≡ Some n = e in cc)
 
-abbrev stepped : Stand → Instr → Told → ℕ → Next
+abbrev stepped : Stand → Instr → Telling → ℕ → Next
 stepped from i t pc = record {
   place = record { pc = from.pc; instr = i };
   shown = t.shown;
   stand = record { pc = pc; step = from.step + 1; over = is_last t.shown; path = t.path; records = t.records };
 }
 
-gone_case : (from : Stand) (i : Instr) (t : Told) (o : Option ℕ) (n : Next) → gone from i t o ≡ Some n → (pc : ℕ) × (o ≡ Some pc) × (stepped from i t pc ≡ n)
+gone_case : (from : Stand) (i : Instr) (t : Telling) (o : Option ℕ) (n : Next) → gone from i t o ≡ Some n → (pc : ℕ) × (o ≡ Some pc) × (stepped from i t pc ≡ n)
 gone_case from i t (Some pc) n e = (pc, refl, some_same (stepped from i t pc) n e)
 gone_case from i t None n e = absurd (let f : None ≡ Some n = e in cc)
 
-parts_of : (image : Layout) (thread : ℕ) (from : Stand) (i : Instr) (t : Told) (pc : ℕ) → from.over ≡ false → instr_at image from.pc ≡ Ok i
+parts_of : (image : Layout) (thread : ℕ) (from : Stand) (i : Instr) (t : Telling) (pc : ℕ) → from.over ≡ false → instr_at image from.pc ≡ Ok i
     → goes_to from.pc (transfer_of from.pc i) t.shown ≡ Some pc → Fits thread from.step from.path from.records t
     → Parts image thread from (stepped from i t pc).place (stepped from i t pc).shown (stepped from i t pc).stand
 parts_of image thread from i t pc going fetched goes fits = record {
@@ -142,7 +142,7 @@ next_parts image thread from n mine e =
     let fetched = fetched_case from (instr_at image from.pc) n over.1 in
     let i : Instr = fetched.0 in
     let tells = told_case from i (told from.step (transfer_of from.pc i) from.path from.records) n fetched.2 in
-    let t : Told = tells.0 in
+    let t : Telling = tells.0 in
     let went = gone_case from i t (goes_to from.pc (transfer_of from.pc i) t.shown) n tells.2 in
     subst (λ (m : Next). Parts image thread from m.place m.shown m.stand) went.2
     (parts_of image thread from i t went.0 over.0 fetched.1 went.1 (told_fits thread from.step (transfer_of from.pc i) from.path from.records t mine tells.1))
@@ -152,7 +152,7 @@ pub parts_next : (image : Layout) (thread : ℕ) (from : Stand) (place : Place) 
 unfolding next
 parts_next image thread from place shown to p =
     let how : Transfer = transfer_of from.pc place.instr in
-    let left : Told = record { shown = shown; path = to.path; records = to.records } in
+    let left : Telling = record { shown = shown; path = to.path; records = to.records } in
     let tells : told from.step how from.path from.records ≡ Some left =
     ap (λ (path : List PathItem). told from.step how path from.records) p.path
     ∙ ap (told from.step how (cons_some (item_of shown) to.path)) p.records

@@ -13,7 +13,7 @@ use Rattle.rv_model.specs.declared.walk.Transfer.TheVariants as transfer
 use Rattle.rv_model.specs.Walk.{records_by, makes}
 use Rattle.trace_path.specs.Items.{jump_of, branch_of}
 use Rattle.trace_path.specs.Starts.{entry_of, entry_in}
-use Rattle.trace_path.specs.Steps.{Told, told, called_at}
+use Rattle.trace_path.specs.Steps.{Telling, told, called_at}
 
 -- lists from a place on
 
@@ -37,7 +37,7 @@ pub ruleset ends = (drop_past, drop_nil)
 
 -- items
 
-abbrev pub after_jump : List PathItem → ℕ → List CallRec → ℕ → Told
+abbrev pub after_jump : List PathItem → ℕ → List CallRec → ℕ → Telling
 after_jump path at records target = record { shown = note.Jump target; path = drop (at + 1) path; records = records }
 
 jump_case : (step at : ℕ) (path : List PathItem) (records : List CallRec) (o : Option PathItem) → slice_get path at ≡ o
@@ -50,7 +50,7 @@ pub jump_told : (step at : ℕ) (path : List PathItem) (records : List CallRec) 
     → option_map (after_jump path at records) o ≡ told step transfer.Indirect (drop at path) records
 jump_told step at path records o e = ap (option_map (after_jump path at records)) e ∙ sym (jump_case step at path records (slice_get path at) refl)
 
-abbrev pub after_branch : List PathItem → ℕ → List CallRec → Bool → Told
+abbrev pub after_branch : List PathItem → ℕ → List CallRec → Bool → Telling
 after_branch path at records taken = record { shown = note.Branch taken; path = drop (at + 1) path; records = records }
 
 branch_case : (step target at : ℕ) (path : List PathItem) (records : List CallRec) (o : Option PathItem) → slice_get path at ≡ o

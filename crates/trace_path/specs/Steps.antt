@@ -16,7 +16,7 @@ use Rattle.rv_model.specs.Step.{instr_at}
 use Rattle.rv_model.specs.Run.{logged}
 use Rattle.rv_model.specs.Walk.{transfer_of, goes_to, is_last, records_by}
 use Rattle.trace_path.specs.declared.cursor.Cursor.{Cursor}
-use Rattle.trace_path.specs.declared.cursor.Told.{Told as ToldOf}
+use Rattle.trace_path.specs.declared.cursor.Told.{Told}
 use Rattle.trace_path.specs.declared.step.Advanced.{Advanced}
 use Rattle.trace_path.specs.Shown.{note_of}
 
@@ -30,16 +30,16 @@ pub record Stand : Type 0 where
   pub records : List CallRec
 
 -- what the log tells of a step: its note, and what the log has after it
-pub record Told : Type 0 where
+pub record Telling : Type 0 where
   pub shown : Note
   pub path : List PathItem
   pub records : List CallRec
 
-abbrev pub called_at : ℕ → List PathItem → CallRec → List CallRec → Option Told
+abbrev pub called_at : ℕ → List PathItem → CallRec → List CallRec → Option Telling
 called_at step path r records = if nat_eq r.at step then Some (record { shown = note.Called r.call; path = path; records = records }) else None
 
 -- what the log tells of a step that so transfers control, none where it has something else there
-abbrev pub told : ℕ → Transfer → List PathItem → List CallRec → Option Told
+abbrev pub told : ℕ → Transfer → List PathItem → List CallRec → Option Telling
 told step transfer.Next path records = Some (record { shown = note.Nothing; path = path; records = records })
 told step (transfer.Direct target) path records = Some (record { shown = note.Nothing; path = path; records = records })
 told step transfer.Indirect (item.Jump target ∷ path) records = Some (record { shown = note.Jump target; path = path; records = records })
@@ -56,7 +56,7 @@ pub record Next : Type 0 where
   pub shown : Note
   pub stand : Stand
 
-abbrev pub gone : Stand → Instr → Told → Option ℕ → Option Next
+abbrev pub gone : Stand → Instr → Telling → Option ℕ → Option Next
 gone stand instruction tells None = None
 gone stand instruction tells (Some pc) = Some (record {
   place = record { pc = stand.pc; instr = instruction };
@@ -64,7 +64,7 @@ gone stand instruction tells (Some pc) = Some (record {
   stand = record { pc = pc; step = stand.step + 1; over = is_last tells.shown; path = tells.path; records = tells.records };
 })
 
-abbrev pub goes_as_told : Stand → Instr → Option Told → Option Next
+abbrev pub goes_as_told : Stand → Instr → Option Telling → Option Next
 goes_as_told stand instruction None = None
 goes_as_told stand instruction (Some tells) = gone stand instruction tells (goes_to stand.pc (transfer_of stand.pc instruction) tells.shown)
 
@@ -94,12 +94,16 @@ stand_at log thread step cursor = record {
   records = records_by thread (drop cursor.calls log.calls);
 }
 
-abbrev pub told_by : Log → ℕ → ToldOf → Told
+abbrev pub told_by : Log → ℕ → Told → Telling
 told_by log thread tells = record {
   shown = note_of tells.shown;
   path = drop tells.items (logged log thread).path;
   records = records_by thread (drop tells.calls log.calls);
 }
+
+-- what the log tells of a thread that stands at a cursor
+abbrev pub told_at : Log → ℕ → ℕ → Cursor → Transfer → Option Telling
+told_at log thread step cursor how = told step how (drop cursor.items (logged log thread).path) (records_by thread (drop cursor.calls log.calls))
 
 abbrev pub next_by : Log → ℕ → ℕ → Advanced → Next
 next_by log thread step advanced = record {

@@ -3,7 +3,7 @@
 ghost use Rattle.std.specs.Prelude.{◌≡◌, ℕ, ◌+◌, ◌<◌, ◌∷◌, [], drop, length, slice_get, slice_index_or, option_map, option_copied, IfSome, IfNone, IsTrue, ◌↔◌};
 ghost use Rattle.rv_model.specs.Run.{logged};
 ghost use Rattle.rv_model.specs.Walk.{records_by};
-ghost use Rattle.trace_path.specs.Steps.{told, told_by};
+ghost use Rattle.trace_path.specs.Steps.{told_at, told_by};
 ghost use Rattle.trace_path.specs.Items.{jump_of, branch_of};
 
 use odr_log::log::{Call, CallRec, Log, PathItem};
@@ -90,7 +90,7 @@ pub fn next_record(records: &[CallRec], thread: usize, from: usize) -> Option<us
 
 /// What the log tells of a JALR.
 fn told_jump<'a>(log: &'a Log, thread: usize, cursor: &Cursor) -> Option<Told<'a>>
-    ensures { (step : ℕ) → option_map (told_by log.now thread) result ≡ told step Transfer.Indirect (drop cursor.now.items (logged log.now thread).path) (records_by thread (drop cursor.now.calls log.now.calls)) }
+    ensures { (step : ℕ) → option_map (told_by log.now thread) result ≡ told_at log.now thread step cursor.now Transfer.Indirect }
 {
     let target = jump_at(path_logged(log, thread), cursor.items)?;
     Some(Told {
@@ -102,7 +102,7 @@ fn told_jump<'a>(log: &'a Log, thread: usize, cursor: &Cursor) -> Option<Told<'a
 
 /// What the log tells of a branch.
 fn told_branch<'a>(log: &'a Log, thread: usize, cursor: &Cursor) -> Option<Told<'a>>
-    ensures { (step target : ℕ) → option_map (told_by log.now thread) result ≡ told step (Transfer.Branch target) (drop cursor.now.items (logged log.now thread).path) (records_by thread (drop cursor.now.calls log.now.calls)) }
+    ensures { (step target : ℕ) → option_map (told_by log.now thread) result ≡ told_at log.now thread step cursor.now (Transfer.Branch target) }
 {
     let taken = branch_at(path_logged(log, thread), cursor.items)?;
     Some(Told {
@@ -114,7 +114,7 @@ fn told_branch<'a>(log: &'a Log, thread: usize, cursor: &Cursor) -> Option<Told<
 
 /// What the log tells of an ECALL.
 fn told_call<'a>(log: &'a Log, thread: usize, step: u32, cursor: &Cursor) -> Option<Told<'a>>
-    ensures { option_map (told_by log.now thread) result ≡ told step Transfer.Call (drop cursor.now.items (logged log.now thread).path) (records_by thread (drop cursor.now.calls log.now.calls)) }
+    ensures { option_map (told_by log.now thread) result ≡ told_at log.now thread step cursor.now Transfer.Call }
 {
     let records = log.calls.as_slice();
     let at = next_record(records, thread, cursor.calls)?;
@@ -136,7 +136,7 @@ pub fn next_told<'a>(
     cursor: &Cursor,
     transfer: &Transfer,
 ) -> Option<Told<'a>>
-    ensures { option_map (told_by log.now thread) result ≡ told step transfer.now (drop cursor.now.items (logged log.now thread).path) (records_by thread (drop cursor.now.calls log.now.calls)) }
+    ensures { option_map (told_by log.now thread) result ≡ told_at log.now thread step cursor.now transfer.now }
 {
     match transfer {
         Transfer::Next | Transfer::Direct { .. } => Some(Told {

@@ -20,6 +20,7 @@ pub struct Gathered {
 }
 
 impl Gathered {
+    /// Of no thread.
     fn none(alloc: Global) -> Gathered
         ensures { result ≡ record { places = []; stops = []; accesses = 0 } }
     {
@@ -30,7 +31,7 @@ impl Gathered {
         }
     }
 
-    /// The walk of one thread more.
+    /// Adds the walk of the next thread.
     fn add(&mut self, followed: Followed) -> Result<(), Memory>
         requires { self.old.accesses + followed.accesses < 2 ^ 64 }
         ensures { OnOk result (self.new ≡ record { places = self.old.places ++ followed.places ∷ []; stops = self.old.stops ++ followed.stop ∷ []; accesses = self.old.accesses + followed.accesses }) }
