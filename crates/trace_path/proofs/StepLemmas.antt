@@ -1,11 +1,10 @@
 -- What one step along a log is.
-use Rattle.std.specs.Prelude.{◌≡◌, ℕ, ◌+◌, Bool, true, false, cond, List, [], ◌∷◌, nat_eq, Option, Some, None, Result, Ok, Err, All}
-use Rattle.std.proofs.Common.{refl, sym, ◌∙◌, ap, subst, arith, eq-eqb}
+use Rattle.std.specs.Prelude.{◌≡◌, ℕ, ◌+◌, Bool, true, false, cond, List, [], ◌∷◌, nat_eq, Option, Some, None, Result, Ok, Err}
+use Rattle.std.proofs.Common.{refl, sym, ◌∙◌, ap, subst, eq-eqb}
 use Rattle.std.proofs.lemmas.Bool.{eqb-true}
 use Rattle.elf_image.specs.Layout.{Layout}
 use Rattle.rv32_decode.specs.declared.instr.Instr.{Instr}
 use Rattle.odr_log.specs.declared.log.Cause.{Cause}
-use Rattle.odr_log.specs.declared.log.Call.{Call}
 use Rattle.odr_log.specs.declared.log.CallRec.{CallRec}
 use Rattle.odr_log.specs.declared.log.PathItem.{PathItem}
 use Rattle.odr_log.specs.declared.log.PathItem.TheVariants as item
@@ -18,7 +17,7 @@ use Rattle.rv_model.specs.declared.walk.Transfer.TheVariants as transfer
 use Rattle.rv_model.specs.Step.{instr_at}
 use Rattle.rv_model.specs.Run.{item_of, cons_some, record_in}
 use Rattle.rv_model.specs.Walk.{transfer_of, goes_to, is_last}
-use Rattle.trace_path.specs.Steps.{Stand, Telling, Next, told, called_at, gone, goes_as_told, goes_by, next}
+use Rattle.trace_path.specs.Steps.{Stand, Telling, Next, told, gone, goes_as_told, goes_by, next}
 
 pub some_same : {A : Type 0} (x y : A) → Some x ≡ Some y → x ≡ y
 some_same x y e = cc

@@ -1,5 +1,5 @@
 -- The first steps of a thread, one step more, and its whole walk.
-use Rattle.std.specs.Prelude.{◌≡◌, ℕ, zero, suc, ◌+◌, ◌^◌, ◌<◌, ◌≤◌, Bool, true, false, cond, List, [], ◌∷◌, ◌++◌, length, drop, nat_eq, Option, Some, None}
+use Rattle.std.specs.Prelude.{◌≡◌, ℕ, ◌+◌, ◌^◌, ◌<◌, ◌≤◌, Bool, true, false, cond, List, [], ◌∷◌, ◌++◌, length, drop, nat_eq, Some, None}
 use Rattle.std.proofs.Common.{refl, sym, ◌∙◌, ap, subst, arith}
 use Rattle.std.proofs.lemmas.Bool.{eqb-true}
 use Rattle.std.proofs.lemmas.List.{append-nil, length_push}
@@ -15,8 +15,8 @@ use Rattle.rv_model.specs.Accesses.{is_access, accesses_from}
 use Rattle.trace_path.specs.declared.cursor.Cursor.{Cursor}
 use Rattle.trace_path.specs.declared.step.Advanced.{Advanced}
 use Rattle.trace_path.specs.Shown.{note_of}
-use Rattle.trace_path.specs.Steps.{Stand, Next, next, Walked, stand_at, next_by}
-use Rattle.trace_path.specs.Followed.{begin, IsFront, StopsAt, IsFollowed}
+use Rattle.trace_path.specs.Steps.{Stand, next, Walked, stand_at, next_by}
+use Rattle.trace_path.specs.Followed.{begin, IsFront, IsFollowed}
 use Rattle.trace_path.proofs.StartLemmas.{begins_one}
 use Rattle.trace_path.proofs.AccessLemmas.{accesses_more}
 use Rattle.trace_path.proofs.WalkLemmas.{AreOf, Along, walked_along, UsedUp, leads_walked, Same, walked_one, walked_stuck, walked_more, walked_lengths}

@@ -1,5 +1,5 @@
 -- What stands first in what is left of a thread's path and of its calls.
-use Rattle.std.specs.Prelude.{◌≡◌, ◌≢◌, ℕ, zero, suc, ◌+◌, ◌-◌, ◌<◌, ◌≤◌, Bool, true, false, cond, List, [], ◌∷◌, length, drop, nat_eq, slice_get, Option, Some, None, option_map}
+use Rattle.std.specs.Prelude.{◌≡◌, ℕ, zero, suc, ◌+◌, ◌-◌, ◌<◌, ◌≤◌, Bool, true, false, cond, List, [], ◌∷◌, length, drop, slice_get, Option, Some, None, option_map}
 use Rattle.std.specs.List.{find}
 use Rattle.std.proofs.Common.{refl, sym, ◌∙◌, ap, arith, get_or, eq-eqb}
 use Rattle.std.proofs.lemmas.Bool.{ne_eqb}
@@ -13,7 +13,7 @@ use Rattle.rv_model.specs.declared.walk.Transfer.TheVariants as transfer
 use Rattle.rv_model.specs.Walk.{records_by, makes}
 use Rattle.trace_path.specs.Items.{jump_of, branch_of}
 use Rattle.trace_path.specs.Starts.{entry_of, entry_in}
-use Rattle.trace_path.specs.Steps.{Telling, told, called_at}
+use Rattle.trace_path.specs.Steps.{Telling, told}
 
 -- lists from a place on
 

@@ -1,17 +1,14 @@
 -- Steps in a row along the log of a thread are the thread's walk.
-use Rattle.std.specs.Prelude.{◌≡◌, ◌↔◌, ℕ, zero, suc, ◌+◌, ◌<◌, ◌≤◌, Bool, true, false, cond, List, [], ◌∷◌, ◌++◌, length, nat_eq, Option, Some, None, Ok, All, AllPairs, if◌then◌else◌}
-use Rattle.std.proofs.Common.{refl, sym, ◌∙◌, ap, subst, arith, get_or, eq-eqb}
-use Rattle.std.proofs.lemmas.List.{append-nil, append_assoc, length-append}
+use Rattle.std.specs.Prelude.{◌≡◌, ℕ, zero, suc, ◌+◌, ◌<◌, Bool, true, false, cond, List, [], ◌∷◌, ◌++◌, length, Option, Some, None, All, AllPairs}
+use Rattle.std.proofs.Common.{refl, sym, ◌∙◌, ap, subst, arith, eq-eqb}
 use Rattle.std.proofs.lemmas.List.Kept.{AllPairs-cons}
 use Rattle.elf_image.specs.Layout.{Layout}
 use Rattle.odr_log.specs.declared.log.CallRec.{CallRec}
 use Rattle.odr_log.specs.declared.log.PathItem.{PathItem}
-use Rattle.rv_model.specs.declared.state.Event.{Event}
 use Rattle.rv_model.specs.declared.state.Note.{Note}
 use Rattle.rv_model.specs.declared.walk.Place.{Place}
-use Rattle.rv_model.specs.Step.{instr_at}
 use Rattle.rv_model.specs.Run.{item_of, cons_some, path_of, record_in, records_of}
-use Rattle.rv_model.specs.Walk.{transfer_of, goes_to, is_last, Leads, events_from}
+use Rattle.rv_model.specs.Walk.{is_last, Leads, events_from}
 use Rattle.trace_path.specs.Steps.{Stand, Next, next, Walked}
 use Rattle.trace_path.proofs.StepLemmas.{Parts, FirstOf, event_at, some_same, next_parts, parts_next}
 

@@ -1,5 +1,5 @@
 -- The walks of all threads, the fault, and the one walk of a log.
-use Rattle.std.specs.Prelude.{◌≡◌, ℕ, zero, suc, ◌+◌, ◌*◌, ◌^◌, ◌<◌, ◌≤◌, Bool, true, false, not, ◌&&◌, cond, List, [], ◌∷◌, ◌++◌, length, nat_eq, slice_get, Option, Some, None, option_map, All}
+use Rattle.std.specs.Prelude.{◌≡◌, ℕ, zero, suc, ◌+◌, ◌*◌, ◌^◌, ◌<◌, ◌≤◌, Bool, true, false, not, ◌&&◌, cond, List, [], ◌∷◌, ◌++◌, length, slice_get, Option, Some, None, option_map, All}
 use Rattle.std.specs.Result.{result_ok}
 use Rattle.std.proofs.Common.{refl, sym, ◌∙◌, ap, subst, arith, get_or, below_more}
 use Rattle.std.proofs.lemmas.Bool.{and_parts}
@@ -15,8 +15,8 @@ use Rattle.rv_model.specs.declared.state.Note.{Note}
 use Rattle.rv_model.specs.declared.walk.Place.{Place}
 use Rattle.rv_model.specs.declared.walk.FaultPlace.{FaultPlace}
 use Rattle.rv_model.specs.Step.{instr_at}
-use Rattle.rv_model.specs.Walk.{Walk, places_of, notes_of, is_last, may_fault, ThreadWalk, FaultsAt, FaultFits, IsWalk}
-use Rattle.rv_model.specs.Accesses.{accesses_from, accesses_by}
+use Rattle.rv_model.specs.Walk.{Walk, places_of, notes_of, is_last, may_fault, FaultsAt, FaultFits, IsWalk}
+use Rattle.rv_model.specs.Accesses.{accesses_by}
 use Rattle.trace_path.specs.declared.thread.Stop.{Stop}
 use Rattle.trace_path.specs.declared.thread.Followed.{Followed}
 use Rattle.trace_path.specs.declared.threads.Gathered.{Gathered}
@@ -24,7 +24,7 @@ use Rattle.trace_path.specs.Faults.{faults_at, faults_by, fault_of}
 use Rattle.trace_path.specs.Followed.{StopsAt, IsFollowed, IsGathered, no_stop}
 use Rattle.trace_path.specs.Traced.{IsTraced}
 use Rattle.trace_path.proofs.StepLemmas.{some_same}
-use Rattle.trace_path.proofs.AccessLemmas.{accesses_any, threads_more}
+use Rattle.trace_path.proofs.AccessLemmas.{threads_more}
 use Rattle.trace_path.proofs.ThreadLemmas.{SameWalks, thread_one}
 
 -- one thread more

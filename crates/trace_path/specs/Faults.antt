@@ -1,5 +1,5 @@
 -- The fault in which a log ends, by where its threads stop.
-use Rattle.std.specs.Prelude.{ℕ, Bool, not, ◌&&◌, List, slice_get, Option, Some, None, option_map, if◌then◌else◌}
+use Rattle.std.specs.Prelude.{not, ◌&&◌, List, slice_get, Option, Some, None, option_map, if◌then◌else◌}
 use Rattle.std.specs.Result.{result_ok}
 use Rattle.elf_image.specs.Layout.{Layout}
 use Rattle.odr_log.specs.declared.log.Cause.{Cause}

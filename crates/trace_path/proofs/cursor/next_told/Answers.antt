@@ -1,7 +1,4 @@
 use Rattle.std.proofs.Common.{sym, ◌∙◌, ap}
-use Rattle.std.specs.Prelude.{drop}
-use Rattle.rv_model.specs.Run.{logged}
-use Rattle.rv_model.specs.Walk.{records_by}
 use Rattle.rv_model.specs.declared.walk.Transfer.{Transfer}
 use Rattle.trace_path.specs.Steps.{told_at}
 use Rattle.trace_path.proofs.cursor.next_told.Goals as goal

@@ -1,9 +1,8 @@
-use Rattle.std.proofs.Common.{◌≡◌, ℕ, ◌+◌, ◌<◌, ◌++◌, ◌∷◌, [], length, List, None, Some, cond, sym, ◌∙◌, ap, subst, arith}
+use Rattle.std.proofs.Common.{◌≡◌, ℕ, ◌+◌, ◌++◌, ◌∷◌, [], List, None, Some, cond, sym, ◌∙◌, ap, subst, arith}
 use Rattle.std.specs.Prelude.{Bool, true, false}
 use Rattle.std.specs.Int.{from_bool}
-use Rattle.rv_model.specs.declared.state.Note.{Note}
 use Rattle.rv_model.specs.declared.walk.Place.{Place}
-use Rattle.trace_path.specs.Steps.{Stand, next, next_by, stand_at}
+use Rattle.trace_path.specs.Steps.{next, next_by, stand_at}
 use Rattle.trace_path.specs.Followed.{IsFront}
 use Rattle.trace_path.proofs.ThreadLemmas.{front_more, front_stuck}
 use Rattle.trace_path.proofs.thread.follow.Goals as goal

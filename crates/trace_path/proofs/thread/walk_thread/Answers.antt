@@ -1,5 +1,4 @@
 use Rattle.std.proofs.Common.{◌≡◌, true, false}
-use Rattle.rv_model.specs.Walk.{BeginsAt}
 use Rattle.trace_path.proofs.ThreadLemmas.{begun_none, left_none, all_followed}
 use Rattle.trace_path.proofs.thread.walk_thread.Goals as goal
 

@@ -1,4 +1,4 @@
-use Rattle.std.proofs.Common.{ℕ, ◌+◌, ◌<◌, length, sym, subst, arith}
+use Rattle.std.proofs.Common.{◌+◌, sym, subst, arith}
 use Rattle.trace_path.specs.Followed.{HasWalk, IsGathered}
 use Rattle.trace_path.proofs.WholeLemmas.{gathered_more}
 use Rattle.trace_path.proofs.threads.gather.Goals as goal

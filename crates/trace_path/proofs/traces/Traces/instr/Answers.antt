@@ -1,5 +1,4 @@
-use Rattle.std.proofs.Common.{◌≡◌, ℕ, List, get_or, Some, [], sym, ◌∙◌, ap}
-use Rattle.std.specs.Prelude.{slice_get}
+use Rattle.std.proofs.Common.{◌≡◌, ℕ, List, get_or, Some, sym, ◌∙◌, ap}
 use Rattle.rv32_decode.specs.declared.instr.Instr.TheVariants as instr
 use Rattle.rv_model.specs.declared.walk.Place.{Place}
 use Rattle.trace_path.specs.Traced.{Traced}
