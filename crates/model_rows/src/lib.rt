@@ -14,6 +14,8 @@ mod machine;
 #[cfg(test)]
 mod machine_edges;
 #[cfg(test)]
+mod recorded;
+#[cfg(test)]
 mod reservations;
 #[cfg(test)]
 mod runs;

@@ -1,6 +1,6 @@
 //! What the log tells of the next step of a thread.
 
-ghost use Rattle.std.specs.Prelude.{◌≡◌, ℕ, ◌+◌, ◌<◌, ◌∷◌, [], drop, length, slice_get, slice_index_or, option_map, option_copied, IfSome, IfNone, IsTrue, ◌↔◌};
+ghost use Rattle.std.specs.Prelude.{◌≡◌, ℕ, ◌+◌, ◌<◌, ◌∷◌, [], drop, length, slice_get, option_map, IfSome, IfNone, IsTrue, ◌↔◌};
 ghost use Rattle.rv_model.specs.Run.{logged};
 ghost use Rattle.rv_model.specs.Walk.{records_by};
 ghost use Rattle.trace_path.specs.Steps.{told_at, told_by};
