@@ -244,30 +244,15 @@ fn differences(rt: HostRuntime) -> Result<(), Fail> {
 
 #[test]
 fn products(rt: HostRuntime) -> Result<(), Fail> {
-    compare(&rt, rt.alloc(), BinOp::Mul, &PRODUCTS[..10])
-}
-
-#[test]
-fn products_of_64_bits(rt: HostRuntime) -> Result<(), Fail> {
-    compare(&rt, rt.alloc(), BinOp::Mul, &PRODUCTS[10..])
+    compare(&rt, rt.alloc(), BinOp::Mul, &PRODUCTS)
 }
 
 #[test]
 fn quotients(rt: HostRuntime) -> Result<(), Fail> {
-    compare(&rt, rt.alloc(), BinOp::Udiv, &QUOTIENTS[..10])
-}
-
-#[test]
-fn quotients_of_64_bits(rt: HostRuntime) -> Result<(), Fail> {
-    compare(&rt, rt.alloc(), BinOp::Udiv, &QUOTIENTS[10..])
+    compare(&rt, rt.alloc(), BinOp::Udiv, &QUOTIENTS)
 }
 
 #[test]
 fn remainders(rt: HostRuntime) -> Result<(), Fail> {
-    compare(&rt, rt.alloc(), BinOp::Urem, &REMAINDERS[..10])
-}
-
-#[test]
-fn remainders_of_64_bits(rt: HostRuntime) -> Result<(), Fail> {
-    compare(&rt, rt.alloc(), BinOp::Urem, &REMAINDERS[10..])
+    compare(&rt, rt.alloc(), BinOp::Urem, &REMAINDERS)
 }

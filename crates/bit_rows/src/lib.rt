@@ -1,7 +1,7 @@
 //! Worked rows of terms in bits: each operation over variables whose literals are given by unit clauses. The values were
 //! worked out on whole numbers from the formulas of SMT-LIB's FixedSizeBitVectors and QF_BV. There is nothing here but
-//! tests, of what no contract says: that the calls succeed with ample memory, and that unit clauses for the operands
-//! leave one value.
+//! tests: calls succeed with ample memory, which no contract says, and the unit rule leaves each term the value of
+//! the formulas.
 #![tactic(auto)]
 
 #[cfg(test)]
