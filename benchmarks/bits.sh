@@ -1,6 +1,7 @@
 #!/usr/bin/env bash
 # Builds the literals of each operation on variables of 32 bits, and prints how many clauses and variables that adds to
-# those of the operands, the time of the processor for one circuit, and the peak memory of 100 of them, one after another.
+# those of the operands, and the processor time and peak memory of 100 such circuits made one after another, each with a
+# pool, an arena and a store of its own.
 # ByteSelect has a table of 256 bytes.
 set -euo pipefail
 cd "$(dirname "$0")/.."
