@@ -1,8 +1,7 @@
 #!/usr/bin/env bash
 # Builds the literals of each operation on variables of 32 bits, and prints how many clauses and variables that adds to
-# those of the operands, and the processor time and peak memory of 100 such circuits made one after another, each with a
-# pool, an arena and a store of its own.
-# ByteSelect has a table of 256 bytes.
+# those of the operands, and the processor time and peak memory of 10,000 such circuits made one after another, each with
+# a pool, an arena and a store of its own. ByteSelect has a table of 256 bytes.
 set -euo pipefail
 cd "$(dirname "$0")/.."
 folder=$(mktemp -d)
@@ -39,7 +38,7 @@ use std::env;
 use std::io;
 
 /// How many circuits are made, one after another.
-const TIMES: u32 = 100;
+const TIMES: u32 = 10_000;
 
 /// The operation of a number on terms of 32 bits, and of one bit.
 fn node_of<'a>(
@@ -128,6 +127,6 @@ rt run > log 2>&1 || { cat log; exit 1; }
 number=0
 for operation in And Or Xor Add Sub Mul Udiv Urem Shl Lshr Ashr Eq Ult Slt Concat Not Neg Extract ZeroExtend SignExtend Ite ByteSelect; do
     printf '%s: ' "$operation"
-    /usr/bin/time --format "processor time of 100: %U s; peak memory: %M kB" out/bit_benchmark "$number" 2>&1 | paste -sd ';' | sed 's/;/; /'
+    /usr/bin/time --format "processor time of 10,000: %U s; peak memory: %M kB" out/bit_benchmark "$number" 2>&1 | paste -sd ';' | sed 's/;/; /'
     number=$((number + 1))
 done
