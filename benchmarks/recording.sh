@@ -6,8 +6,11 @@ cd "$(dirname "$0")/../crates/odr"
 folder=$(mktemp -d)
 trap 'rm -rf "$folder"' EXIT
 
-rt run > "$folder/build" 2>&1 || { cat "$folder/build"; exit 1; }
+# The run itself answers that it got no words.
+rm -f out/odr
+rt run > "$folder/build" 2>&1 || true
 odr="$PWD/out/odr"
+[ -x "$odr" ] || { cat "$folder/build"; exit 1; }
 cd "$folder"
 
 # Two workers of 24,576 rounds each, which add to one cell without a lock.
