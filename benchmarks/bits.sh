@@ -4,20 +4,10 @@
 # a pool, an arena and a store of its own. ByteSelect has a table of 256 bytes.
 set -euo pipefail
 cd "$(dirname "$0")/.."
-folder=$(mktemp -d)
-trap 'rm -rf "$folder"' EXIT
+source benchmarks/program.sh
 
-program="$folder/crates/bit_benchmark"
-mkdir -p "$program/src"
-libraries="odr_list bv_terms clause_store bit_gates bit_clauses"
-for library in $libraries; do
-    mkdir "$folder/crates/$library"
-    for part in src specs proofs; do
-        if [ -d "crates/$library/$part" ]; then cp -r "crates/$library/$part" "$folder/crates/$library/"; fi
-    done
-    grep "^$library:" crates.txt >> "$folder/crates.txt"
-done
-echo "bit_benchmark: bv_terms clause_store bit_clauses bumpalo" >> "$folder/crates.txt"
+new_program bit_benchmark "bv_terms clause_store bit_clauses bumpalo" \
+    odr_list bv_terms clause_store bit_gates bit_clauses
 cat > "$program/src/main.rt" <<'CODE'
 #![tactic(auto)]
 
@@ -120,10 +110,9 @@ fn main(rt: HostRuntime) -> io::Result<()> {
 }
 CODE
 
-cd "$program"
-mkdir -p proofs
-: > proofs/Lib.antt
-rt run > log 2>&1 || { cat log; exit 1; }
+mkdir -p "$program/proofs"
+: > "$program/proofs/Lib.antt"
+build_program
 number=0
 for operation in And Or Xor Add Sub Mul Udiv Urem Shl Lshr Ashr Eq Ult Slt Concat Not Neg Extract ZeroExtend SignExtend Ite ByteSelect; do
     printf '%s: ' "$operation"

@@ -3,18 +3,10 @@
 # peak memory.
 set -euo pipefail
 cd "$(dirname "$0")/.."
-folder=$(mktemp -d)
-trap 'rm -rf "$folder"' EXIT
+source benchmarks/program.sh
 
-program="$folder/crates/clause_benchmark"
-mkdir -p "$program/src" "$program/proofs/add_clauses"
-cp -r crates/odr_list crates/clause_store "$folder/crates/"
-rm -rf "$folder"/crates/*/out
-cat > "$folder/crates.txt" <<'LIST'
-odr_list:
-clause_store: odr_list bumpalo
-clause_benchmark: clause_store bumpalo
-LIST
+new_program clause_benchmark "clause_store bumpalo" odr_list clause_store
+mkdir -p "$program/proofs/add_clauses"
 cat > "$program/src/main.rt" <<'CODE'
 #![tactic(auto)]
 
@@ -74,6 +66,5 @@ abbrev pub invariant-loop-turn : goal.invariant-loop-turn
 invariant-loop-turn l = 3 ≤ l.store.vars
 PROOF
 
-cd "$program"
-rt run > log 2>&1 || { cat log; exit 1; }
+build_program
 /usr/bin/time --format "processor time: %U s of the program, %S s of the system; peak memory: %M kB" out/clause_benchmark

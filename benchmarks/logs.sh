@@ -4,19 +4,9 @@
 # bytes, about the most that a recording has. The others have small parts alone, as a file may and no recording does.
 set -euo pipefail
 cd "$(dirname "$0")/.."
-folder=$(mktemp -d)
-trap 'rm -rf "$folder"' EXIT
+source benchmarks/program.sh
 
-program="$folder/crates/log_benchmark"
-mkdir -p "$program/src"
-for library in odr_list odr_log; do
-    mkdir "$folder/crates/$library"
-    for part in src specs proofs; do
-        if [ -d "crates/$library/$part" ]; then cp -r "crates/$library/$part" "$folder/crates/$library/"; fi
-    done
-    grep "^$library:" crates.txt >> "$folder/crates.txt"
-done
-echo "log_benchmark: odr_log" >> "$folder/crates.txt"
+new_program log_benchmark odr_log odr_list odr_log
 cat > "$program/src/main.rt" <<'CODE'
 #![tactic(auto)]
 
@@ -142,8 +132,7 @@ fn main(rt: HostRuntime) -> io::Result<()> {
     }
 }
 CODE
-cd "$program"
-rt run > log 2>&1 || { cat log; exit 1; }
+build_program
 
 # The processor time of a run in seconds, its peak memory in kB, and the number of bytes.
 measured() {

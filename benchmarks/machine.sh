@@ -3,23 +3,10 @@
 # steps the time that passed, the steps in a second of the processor, and the peak memory, which is to be the same.
 set -euo pipefail
 cd "$(dirname "$0")/.."
-folder=$(mktemp -d)
-trap 'rm -rf "$folder"' EXIT
+source benchmarks/program.sh
 
-program="$folder/crates/machine_benchmark"
-mkdir -p "$program/src"
-libraries="odr_list byteorder rv32_decode elf_image odr_log rv_model guest_mem guest_calls guest_machine guest_programs"
-for library in $libraries; do
-    if [ -d "crates/$library" ]; then
-        mkdir "$folder/crates/$library"
-        cp -r crates/"$library"/src "$folder/crates/$library/"
-        for part in specs proofs; do
-            if [ -d "crates/$library/$part" ]; then cp -r "crates/$library/$part" "$folder/crates/$library/"; fi
-        done
-        grep "^$library:" crates.txt >> "$folder/crates.txt"
-    fi
-done
-echo "machine_benchmark: elf_image guest_machine guest_programs" >> "$folder/crates.txt"
+new_program machine_benchmark "elf_image guest_machine guest_programs" \
+    odr_list rv32_decode elf_image odr_log rv_model guest_mem guest_calls guest_machine guest_programs
 cat > "$program/src/main.rt" <<'CODE'
 #![tactic(auto)]
 
@@ -81,8 +68,7 @@ fn main(rt: HostRuntime) -> io::Result<()> {
     println!(rt; "{done} steps in {milliseconds} ms")
 }
 CODE
-cd "$program"
-rt run > log 2>&1 || { cat log; exit 1; }
+build_program
 for steps in 5000000 50000000; do
     /usr/bin/time --format "%U %S %M" out/machine_benchmark "$steps" 2> used
     awk -v steps="$steps" '{ printf "processor time: %s s of the program, %s s of the system, %.1f million steps a second; peak memory: %s kB\n", $1, $2, steps / ($1 + $2 + 0.001) / 1e6, $3 }' used
