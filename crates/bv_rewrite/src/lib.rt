@@ -1,0 +1,9 @@
+//! Terms are made simpler by rules that keep their values. A rule sees a node on two terms of one width, and says
+//! what may stand in the node's place.
+#![tactic(auto)]
+
+pub mod rewrite;
+pub mod simplify;
+pub mod view;
+
+pub use odr_list::memory::Memory;
