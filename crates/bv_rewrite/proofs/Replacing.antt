@@ -1,5 +1,5 @@
 -- What stands in a node's place by a right swap.
-use Rattle.std.proofs.Common.{◌≡◌, ℕ, zero, suc, ◌<◌, ◌≤◌, ◌^◌, List, [], ◌∷◌, Some, length, refl, sym, ◌∙◌, ap, subst, inl, inr, nat_eq, arith}
+use Rattle.std.proofs.Common.{◌≡◌, ℕ, ◌<◌, ◌^◌, List, Some, length, refl, sym, ◌∙◌, ap, subst, inl, inr, nat_eq, arith}
 use Rattle.std.specs.Prelude.{◌⊎◌, Option, IfSome, Contains, slice_get}
 use Rattle.std.proofs.lemmas.Option.{IfSome_then, slice_get_within}
 use Rattle.std.proofs.lemmas.Bool.{eqb-true}

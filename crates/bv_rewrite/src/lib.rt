@@ -4,6 +4,8 @@
 
 pub mod rewrite;
 pub mod simplify;
+#[cfg(test)]
+mod tests;
 pub mod view;
 
 pub use odr_list::memory::Memory;

@@ -1,6 +1,5 @@
 use Rattle.std.proofs.Common.{subst}
 use Rattle.std.proofs.lemmas.Result.{IfOk-weaker}
-use Rattle.bv_terms.specs.Values.{Assignment, value_at}
 use Rattle.bv_rewrite.specs.declared.view.Swap.{Swap}
 use Rattle.bv_rewrite.specs.Swapped.{CanReplace}
 use Rattle.bv_rewrite.proofs.Replacing.{constant_fits, constant_stands}
