@@ -11,24 +11,24 @@ own : IsNumeralModel (AllDigits 10) (digits_value 10)
 own = numerals_by_value (AllDigits 10) tells_digits
 
 -- what was parsed, with no sign and no zero in front, is what is written
-pub ok_is_decimal : (n : ℕ) (digits text : List ℕ) → digits ≡ text → 48 < get_or text 0 0 → ParsesUnsigned {E = ℕ} 32 10 digits (Ok n) → text ≡ decimal n
+pub ok_is_decimal : (n : ℕ) (digits text : List ℕ) → digits ≡ text → 48 < get_or text 0 0 → ParsesUnsigned {E = ℕ} 64 10 digits (Ok n) → text ≡ decimal n
 ok_is_decimal n digits text same above parses =
-    let P : List ℕ → Type 0 = λ bytes. ParsesUnsigned {E = ℕ} 32 10 bytes (Ok n) in
+    let P : List ℕ → Type 0 = λ bytes. ParsesUnsigned {E = ℕ} 64 10 bytes (Ok n) in
     let no_sign : get_or text 0 0 ≢ 43 = λ plus. omega arith in
-    let known = parse_plain own {E = ℕ} 32 text (Ok n) (subst P same parses) no_sign in
+    let known = parse_plain own {E = ℕ} 64 text (Ok n) (subst P same parses) no_sign in
     let written = decimal-digits_value own text known.0.0 known.0.1 (λ zero. absurd (omega arith)) (let small = known.0.2 in omega arith) in
     sym written ∙ ap decimal (sym known.1)
 
 -- what is written is parsed
-pub decimal_is_ok : (m n : ℕ) (digits text : List ℕ) → digits ≡ text → n < 2 ^ 32 → text ≡ decimal n → ParsesUnsigned {E = ℕ} 32 10 digits (Ok m) → m ≡ n
+pub decimal_is_ok : (m n : ℕ) (digits text : List ℕ) → digits ≡ text → n < 2 ^ 64 → text ≡ decimal n → ParsesUnsigned {E = ℕ} 64 10 digits (Ok m) → m ≡ n
 decimal_is_ok m n digits text same few e parses =
-    let found : ◌≡◌ {A = Result ℕ ℕ} (Ok m) (Ok n) = parse-decimal {E = ℕ} 32 n digits (Ok m) few (omega arith) (same ∙ e) parses in cc
+    let found : ◌≡◌ {A = Result ℕ ℕ} (Ok m) (Ok n) = parse-decimal {E = ℕ} 64 n digits (Ok m) few (omega arith) (same ∙ e) parses in cc
 
-pub decimal_not_err : (n : ℕ) (digits text : List ℕ) → digits ≡ text → n < 2 ^ 32 → text ≡ decimal n → ParsesUnsigned {E = ℕ} 32 10 digits (Err 0) → ⊥
+pub decimal_not_err : (n : ℕ) (digits text : List ℕ) → digits ≡ text → n < 2 ^ 64 → text ≡ decimal n → ParsesUnsigned {E = ℕ} 64 10 digits (Err 0) → ⊥
 decimal_not_err n digits text same few e parses =
-    let found : ◌≡◌ {A = Result ℕ ℕ} (Err 0) (Ok n) = parse-decimal {E = ℕ} 32 n digits (Err 0) few (omega arith) (same ∙ e) parses in cc
+    let found : ◌≡◌ {A = Result ℕ ℕ} (Err 0) (Ok n) = parse-decimal {E = ℕ} 64 n digits (Err 0) few (omega arith) (same ∙ e) parses in cc
 
-pub decimal_is_text : (text : List ℕ) (n : ℕ) → n < 2 ^ 32 → text ≡ decimal n → IsUtf8 text
+pub decimal_is_text : (text : List ℕ) (n : ℕ) → n < 2 ^ 64 → text ≡ decimal n → IsUtf8 text
 decimal_is_text text n few e = subst IsUtf8 (sym e) (IsUtf8-from_ascii (decimal n) (IsAscii-decimal n (omega arith)))
 
 -- how the text of a number begins: with a zero only if that is all
@@ -42,7 +42,7 @@ decimal_begins (suc n) fits =
     let above = first_decimal (suc n) (omega arith) fits in
     record { some = decimal_nonempty (suc n) fits; zero = λ low. absurd (omega arith) }
 
-pub begins : (text : List ℕ) (n : ℕ) → n < 2 ^ 32 → text ≡ decimal n → Begins text
+pub begins : (text : List ℕ) (n : ℕ) → n < 2 ^ 64 → text ≡ decimal n → Begins text
 begins text n few e = subst Begins (sym e) (decimal_begins n (omega arith))
 
 -- the text of zero

@@ -5,7 +5,7 @@ use Rattle.std.specs.Fmt.{decimal}
 use Rattle.std.specs.List.{position_from}
 use Rattle.std.specs.Option.{IfNone, option_eq}
 use Rattle.sched_text.specs.declared.run.Run.{Run}
-use Rattle.sched_text.specs.LineLaws.{IsFreeOf, one_split, line_parts, decimal_free}
+use Rattle.sched_text.specs.LineLaws.{IsFreeOf, one_split, not_free, line_parts, decimal_free}
 use Rattle.sched_text.specs.Text.{line_of}
 
 -- the first such byte is at a place
@@ -56,13 +56,6 @@ is_first byte bytes at e =
 
 pub is_free : (byte : ℕ) (bytes : List ℕ) → position_from (λ b. eqb b byte) 0 bytes ≡ None → IsFreeOf byte bytes
 is_free byte bytes e = free_from byte bytes 0 e
-
--- a list with such a byte is not free of it
-pub not_free : (byte : ℕ) (bytes a x : List ℕ) → IsFreeOf byte bytes → bytes ≡ a ++ byte ∷ x → ⊥
-not_free byte [] [] x free e = cc
-not_free byte [] (c ∷ a) x free e = cc
-not_free byte (b ∷ bytes) [] x free e = free.0 (cc e)
-not_free byte (b ∷ bytes) (c ∷ a) x free e = not_free byte bytes a x free.1 (cc e)
 
 -- a fact that holds anyway
 pub none_from : {X : Type 0} (o : Option X) (P : Type 0) → P → IfNone o P

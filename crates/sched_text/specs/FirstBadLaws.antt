@@ -21,7 +21,7 @@ pub first_lines-line : (n : ℕ) (a x : List ℕ) → IsFreeOf 10 a → first_li
 first_lines-line n [] x free = refl
 first_lines-line n (byte ∷ a) x free = rw (ne_eqb byte 10 free.0) (ap (λ (l : List ℕ). byte ∷ l) (first_lines-line n a x free.1))
 
-free_append : (byte : ℕ) (a b : List ℕ) → IsFreeOf byte a → IsFreeOf byte b → IsFreeOf byte (a ++ b)
+pub free_append : (byte : ℕ) (a b : List ℕ) → IsFreeOf byte a → IsFreeOf byte b → IsFreeOf byte (a ++ b)
 free_append byte [] b free_a free_b = free_b
 free_append byte (c ∷ a) b free_a free_b = (free_a.0, free_append byte a b free_a.1 free_b)
 

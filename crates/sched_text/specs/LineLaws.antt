@@ -22,6 +22,13 @@ one_split byte (c ∷ a) (d ∷ b) x y free_a free_b e =
     let rest = one_split byte a b x y free_a.1 free_b.1 (cc e) in
     (ap₂ (λ (h : ℕ) (t : List ℕ). h ∷ t) (cc e) rest.0, rest.1)
 
+-- a list with such a byte is not free of it
+pub not_free : (byte : ℕ) (bytes a x : List ℕ) → IsFreeOf byte bytes → bytes ≡ a ++ byte ∷ x → ⊥
+not_free byte [] [] x free e = cc
+not_free byte [] (c ∷ a) x free e = cc
+not_free byte (b ∷ bytes) [] x free e = free.0 (cc e)
+not_free byte (b ∷ bytes) (c ∷ a) x free e = not_free byte bytes a x free.1 (cc e)
+
 digits_free : (byte : ℕ) (digits : List ℕ) → byte < 48 → AllDigits 10 digits → IsFreeOf byte digits
 digits_free byte [] below all = tt
 digits_free byte (digit ∷ digits) below all =

@@ -5,10 +5,11 @@
 pub mod fault;
 pub mod laws;
 mod line;
-mod number;
+pub mod number;
 pub mod read;
 pub mod run;
 pub mod schedule;
+pub mod split;
 #[cfg(test)]
 mod tests;
 pub mod write;

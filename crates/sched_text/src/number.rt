@@ -3,7 +3,7 @@ ghost use Rattle.std.specs.Prelude.{◌≡◌, ℕ, ◌<◌, ◌≤◌, IfSome, 
 use std::str;
 
 /// The number that a text says: decimal, without sign or leading zero, and at most `most`.
-pub fn number_of(text: &[u8], most: u32) -> Option<u32>
+pub fn number_of(text: &[u8], most: u64) -> Option<u64>
     ensures said { IfSome result (λ n. (n ≤ most) × (text.now ≡ decimal n)) }
     ensures none { IfNone result ((n : ℕ) → n ≤ most → text.now ≡ decimal n → ⊥) }
 {
@@ -20,7 +20,7 @@ pub fn number_of(text: &[u8], most: u32) -> Option<u32>
 }
 
 /// The same of a text that begins with a byte above `0`, so with neither sign nor zero.
-fn parsed(text: &[u8], most: u32) -> Option<u32>
+fn parsed(text: &[u8], most: u64) -> Option<u64>
     requires { 48 < slice_index text.now 0 }
     ensures said { IfSome result (λ n. (n ≤ most) × (text.now ≡ decimal n)) }
     ensures none { IfNone result ((n : ℕ) → n ≤ most → text.now ≡ decimal n → ⊥) }
@@ -28,7 +28,7 @@ fn parsed(text: &[u8], most: u32) -> Option<u32>
     let Ok(digits) = str::from_utf8(text) else {
         return None;
     };
-    let Ok(number) = digits.parse::<u32>() else {
+    let Ok(number) = digits.parse::<u64>() else {
         return None;
     };
     if number <= most { Some(number) } else { None }

@@ -1,6 +1,7 @@
 use Rattle.std.proofs.Common.{Some, ap, sym, ◌∙◌, arith}
 use Rattle.std.proofs.lemmas.Fmt.{decimal_injective}
-use Rattle.sched_text.proofs.Splits.{none_from, option_same, fields, no_fields, count_field, not_free}
+use Rattle.sched_text.specs.LineLaws.{not_free}
+use Rattle.sched_text.proofs.Splits.{none_from, option_same, fields, no_fields, count_field}
 use Rattle.sched_text.proofs.line.next_run.Goals as goal
 use Rattle.sched_text.proofs.line.next_run.Goals.{then-count-eq0-via-then-count-eq0, then-count-eq0-via-else-count-eq0+then-eq}
 
@@ -29,7 +30,7 @@ returns-then-count-eq0-clause-none c = λ run after may line.
     let count = count_field run.count c.in_ok-thread.after.now after c.in_ok-count.count.now c.in_ok-count.after.now (let n = may.fits in omega (arith, c.ranges.room)) c.in_ok-count.ensures.parts c.in_ok-count.ensures.first f.rest in
     elim c.then-count-eq0.branch [
       | then-count-eq0-via-then-count-eq0 w ↦
-          let same = decimal_injective c.in_ok-count-2.count run.count (omega (arith, c.ranges.room, c.in_ok-count-2.ensures.said.0)) (let n = may.fits in omega (arith, c.ranges.room)) (sym c.in_ok-count-2.ensures.said.1 ∙ count) in
+          let same = decimal_injective c.in_ok-count-2.field-0 run.count (omega (arith, c.ranges.room, c.in_ok-count-2.ensures.said.0)) (let n = may.fits in omega (arith, c.ranges.room)) (sym c.in_ok-count-2.ensures.said.1 ∙ count) in
           let some = may.some in
           omega (arith, w.if-count-eq0.true)
       | then-count-eq0-via-else-count-eq0+then-eq w ↦

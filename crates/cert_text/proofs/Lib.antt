@@ -1,0 +1,3 @@
+mod Literals
+mod Words
+mod ReadLines
