@@ -6,9 +6,9 @@ use Rattle.std.proofs.lemmas.List.{length-append}
 use mathlib.Core.Path.{fun_ext}
 use Rattle.rv_model.specs.declared.state.Core.{Core}
 use Rattle.rv_model.specs.declared.state.State.{State}
-use Rattle.rv_model.specs.Step.{is_enabled}
+use Rattle.rv_model.specs.Step.{is_enabled, enabled_in}
 use Rattle.guest_machine.specs.Whole.{Whole, StandsFor}
-use Rattle.guest_machine.specs.Waiting.{enabled_threads, enabled_in}
+use Rattle.guest_machine.specs.Waiting.{enabled_threads}
 use Rattle.guest_machine.proofs.StandsLemmas.{enabled_there}
 
 kept_by : (b : Bool) (x : ℕ) (xs ys : List ℕ) → cond b (x ∷ (xs ++ ys)) (xs ++ ys) ≡ cond b (x ∷ xs) xs ++ ys

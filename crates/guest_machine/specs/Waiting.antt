@@ -5,12 +5,11 @@ use Rattle.elf_image.specs.Layout.{Layout}
 use Rattle.elf_image.specs.Memory.{Cells}
 use Rattle.rv_model.specs.declared.state.Calls.{Calls}
 use Rattle.rv_model.specs.declared.state.Core.{Core}
-use Rattle.rv_model.specs.declared.state.State.{State}
 use Rattle.rv_model.specs.declared.hearing.Asked.{Asked}
 use Rattle.rv_model.specs.declared.hearing.Asked.TheVariants as asked
 use Rattle.rv_model.specs.Calls.{end_value, waits}
 use Rattle.rv_model.specs.Instruction.{asked_at}
-use Rattle.rv_model.specs.Step.{thread_at, next_instr, reach_at, is_enabled}
+use Rattle.rv_model.specs.Step.{thread_at, next_instr, reach_at}
 use Rattle.guest_machine.specs.declared.wait.Wait.{Wait}
 use Rattle.guest_machine.specs.declared.wait.Wait.TheVariants as wait
 use Rattle.guest_machine.specs.Whole.{Whole, may_step}
@@ -38,6 +37,3 @@ wait_at image cells core thread =
 -- the threads that may step, in rising order
 abbrev pub enabled_threads : Whole → List ℕ
 enabled_threads whole = filter (may_step whole) (range_with_len 0 (length whole.core.threads))
-
-abbrev pub enabled_in : Layout → State → List ℕ
-enabled_in image state = filter (is_enabled image state) (range_with_len 0 (length state.core.threads))

@@ -1,8 +1,7 @@
 ghost use Rattle.std.specs.Prelude.{◌≡◌, ◌<◌, ◌*◌, ◌/◌, IfOk};
 ghost use Rattle.rv32_decode.specs.Valid.{IsValid};
 ghost use Rattle.rv_model.specs.Thread.{register, with_register, next_pc, onward, gone_to};
-ghost use Rattle.rv_model.specs.Met.{IsAlone};
-ghost use Rattle.rv_model.specs.Instruction.{computes, jumps, branches, act};
+ghost use Rattle.rv_model.specs.Instruction.{IsAlone, computes, jumps, branches, act};
 ghost use Rattle.rv_model.specs.declared.hearing.Heard.{Heard};
 ghost use Rattle.guest_machine.specs.Notes.{note_of, IsPlain};
 ghost use Rattle.guest_machine.specs.Ran.{RanAlone};

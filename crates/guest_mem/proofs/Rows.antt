@@ -42,7 +42,7 @@ hidden_by b c true cell first e = same_byte b c cell ∙ e
 hidden_by b c false cell first e = e
 
 -- a byte that is written hides those that were written there before
-hidden : (before : Cells) (writes : List Write) (at byte : ℕ) → option_map (with_byte byte) (cells_after before writes at) ≡ option_map (with_byte byte) (before at)
+pub hidden : (before : Cells) (writes : List Write) (at byte : ℕ) → option_map (with_byte byte) (cells_after before writes at) ≡ option_map (with_byte byte) (before at)
 hidden before [] at byte = refl
 hidden before (w ∷ ws) at byte = hidden_by byte w.byte (nat_eq w.address at) (cells_after before ws at) (before at) (hidden before ws at byte)
 

@@ -12,7 +12,7 @@ use Rattle.rv_model.specs.Calls.{opening_calls}
 use Rattle.rv_model.specs.CallsFit.{CallsFit}
 use Rattle.rv_model.specs.RecordedOrder.{Closure, One, More, Counted, IsStepOf, Edge, InThread, ByCalls, BySpawn, CountedEdge, RecordedOrder}
 use Rattle.happens_before.specs.Reach.{IsCallAt, Leaves, Called, Made, Reached, IsLeast, IsGreatest, meets}
-use Rattle.happens_before.proofs.SpawnLemmas.{spawn_first}
+use Rattle.rv_model.proofs.SpawnLemmas.{spawn_first}
 
 -- a number through which a step is reached from a number: that of a later call, or of the spawn that made its thread
 abbrev pub Arrives : Log → Pos → ℕ → ℕ → Type 0

@@ -1,5 +1,4 @@
 pub mod ClosedForm
 pub mod FitLemmas
 pub mod PassLemmas
-pub mod SpawnLemmas
 pub mod TableLemmas

@@ -10,10 +10,10 @@ use Rattle.odr_log.specs.declared.log.CallRec.{CallRec}
 use Rattle.odr_log.specs.Grammar.{IsItem, IsThread, IsCall, IsRecord, IsEnd, IsValid}
 use Rattle.rv_model.specs.declared.state.Note.{Note}
 use Rattle.rv_model.specs.declared.state.Note.TheVariants as note
-use Rattle.rv_model.specs.Run.{item_of, record_in, end_by}
+use Rattle.rv_model.specs.Run.{nothing_logged, item_of, record_in, end_by}
 use Rattle.rv_model.specs.declared.state.Halt.{Halt}
 use Rattle.rv_model.specs.declared.state.Halt.TheVariants as halt
-use Rattle.recorder.specs.Added.{nothing_logged, gone_on, with_step, logs_after}
+use Rattle.recorder.specs.Added.{gone_on, with_step, logs_after}
 use Rattle.recorder.proofs.StepLogs.{HaltWithin}
 
 -- a thread's log after so many steps of all threads

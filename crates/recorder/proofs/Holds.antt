@@ -14,13 +14,14 @@ use Rattle.rv_model.specs.declared.state.Core.{Core}
 use Rattle.rv_model.specs.declared.state.Note.{Note}
 use Rattle.rv_model.specs.declared.state.Event.{Event}
 use Rattle.rv_model.specs.Step.{thread_at, opening, step, is_enabled}
-use Rattle.rv_model.specs.Run.{event_of, final, events, path_of, record_in, records_of, thread_logs, end_of, log_of, HasLog}
-use Rattle.rv_model.proofs.Difference.{records_of-append, enabled_within}
+use Rattle.rv_model.specs.Run.{nothing_logged, event_of, final, events, path_of, record_in, records_of, thread_logs, end_of, log_of, HasLog}
+use Rattle.rv_model.proofs.LogParts.{records_of-append}
+use Rattle.rv_model.proofs.Difference.{enabled_within}
 use Rattle.rv_model.proofs.Genuine.{recorded}
 use Rattle.guest_machine.specs.Whole.{Whole, StandsFor}
 use Rattle.guest_sched.specs.Words.{generator_of, generator_after, next_generator}
 use Rattle.recorder.specs.Seeded.{chosen, seeded_from, seeded, log_of_run}
-use Rattle.recorder.specs.Added.{nothing_logged, logs_after, Advances}
+use Rattle.recorder.specs.Added.{logs_after, Advances}
 use Rattle.recorder.proofs.Seeding.{chosen_enabled, seeded_runs, seeded_stops, seeded_goes}
 use Rattle.recorder.proofs.StepLogs.{Unborn, HaltWithin, Adds, step_adds, logs-at, logs-length, as_list}
 use Rattle.recorder.proofs.Children.{IsSmall, step_small, can_spell}

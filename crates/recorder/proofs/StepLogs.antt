@@ -22,10 +22,10 @@ use Rattle.rv_model.specs.Thread.{losing, no_thread}
 use Rattle.rv_model.specs.declared.state.State.{State}
 use Rattle.elf_image.specs.Layout.{Layout}
 use Rattle.rv_model.specs.Step.{thread_at, applied, child_of, halt_then, effect, step}
-use Rattle.rv_model.specs.Run.{item_of, cons_some, path_of, record_in, thread_logs}
-use Rattle.rv_model.proofs.Difference.{path_of-append}
+use Rattle.rv_model.specs.Run.{nothing_logged, item_of, cons_some, path_of, record_in, thread_logs}
+use Rattle.rv_model.proofs.LogParts.{path_of-append, length-thread_logs, thread_logs-at}
 use Rattle.rv_model.proofs.Progress.{gone_retires}
-use Rattle.recorder.specs.Added.{nothing_logged, gone_on, with_step, with_threads, logs_after}
+use Rattle.recorder.specs.Added.{gone_on, with_step, with_threads, logs_after}
 
 -- no thread that was not made did anything
 pub record Unborn (count : ℕ) (happened : List Event) : Type 0 where
@@ -78,18 +78,8 @@ unborn-more count more happened e within grows before = record {
 abbrev log_at : ℕ → ℕ → List Event → ThreadLog
 log_at retired number happened = record { steps = retired; path = path_of number happened }
 
-length-thread_logs : (n : ℕ) (threads : List Thread) (happened : List Event) → length (thread_logs n threads happened) ≡ length threads
-length-thread_logs n [] happened = refl
-length-thread_logs n (x ∷ xs) happened = ap suc (length-thread_logs (n + 1) xs happened)
-
 pub logs-length : (threads : List Thread) (happened : List Event) → length (thread_logs 0 threads happened) ≡ length threads
 logs-length threads happened = length-thread_logs 0 threads happened
-
-thread_logs-at : (n i j : ℕ) (threads : List Thread) (happened : List Event) (d : ThreadLog) → i < length threads → n + i ≡ j
-    → get_or (thread_logs n threads happened) i d ≡ log_at (get_or threads i no_thread).retired j happened
-thread_logs-at n i j [] happened d within e = absurd (omega arith)
-thread_logs-at n zero j (x ∷ xs) happened d within e = let same : n ≡ j = omega arith in ap (λ (k : ℕ). log_at x.retired k happened) same
-thread_logs-at n (suc i) j (x ∷ xs) happened d within e = thread_logs-at (n + 1) i j xs happened d (omega arith) (omega arith)
 
 pub logs-at : (threads : List Thread) (happened : List Event) (t : ℕ) (d : ThreadLog) → t < length threads
     → get_or (thread_logs 0 threads happened) t d ≡ log_at (get_or threads t no_thread).retired t happened

@@ -8,12 +8,8 @@ use Rattle.rv_model.specs.declared.state.State.{State}
 use Rattle.rv_model.specs.declared.state.Note.{Note}
 use Rattle.rv_model.specs.declared.state.Event.{Event}
 use Rattle.rv_model.specs.Step.{thread_at, step}
-use Rattle.rv_model.specs.Run.{item_of, record_in}
+use Rattle.rv_model.specs.Run.{item_of, record_in, nothing_logged}
 use Rattle.guest_machine.specs.Whole.{Whole, StandsFor}
-
--- a thread that did nothing so far
-abbrev pub nothing_logged : ThreadLog
-nothing_logged = record { steps = 0; path = [] }
 
 -- one more item, or none, in the path of a thread that has retired so many instructions
 abbrev pub gone_on : ThreadLog → ℕ → Note → ThreadLog

@@ -3,9 +3,8 @@ use Rattle.std.specs.Prelude.{ℕ, zero, suc, ◌+◌, ◌%◌, List, [], ◌∷
 use Rattle.elf_image.specs.Layout.{Layout}
 use Rattle.odr_log.specs.declared.log.Log.{Log}
 use Rattle.rv_model.specs.declared.state.State.{State}
-use Rattle.rv_model.specs.Step.{opening, step}
+use Rattle.rv_model.specs.Step.{opening, step, enabled_in}
 use Rattle.rv_model.specs.Run.{final, events, log_of}
-use Rattle.guest_machine.specs.Waiting.{enabled_in}
 use Rattle.guest_sched.specs.Words.{word_of_seed}
 
 -- The thread at a place of the schedule: of the c threads that may step, in rising order, the one whose number is the

@@ -2,10 +2,10 @@
 
 ghost use Rattle.std.specs.Prelude.{◌≡◌, ◌<◌, [], ◌∷◌, ◌++◌, length, option_to_list, slice_set, slice_index_or, IfOk, OnOk, IfSome};
 ghost use Rattle.odr_log.specs.Grammar.{IsItem};
-ghost use Rattle.rv_model.specs.Run.{item_of, record_in};
+ghost use Rattle.rv_model.specs.Run.{nothing_logged, item_of, record_in};
 ghost use Rattle.guest_calls.specs.Notes.{FitsFields};
 ghost use Rattle.guest_machine.specs.Notes.{note_of};
-ghost use Rattle.recorder.specs.Added.{nothing_logged, gone_on, with_step, with_threads, logs_after, FitsLog};
+ghost use Rattle.recorder.specs.Added.{gone_on, with_step, with_threads, logs_after, FitsLog};
 
 use guest_machine::note::Note;
 use odr_list::list::List;

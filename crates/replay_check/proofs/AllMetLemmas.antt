@@ -13,12 +13,11 @@ use Rattle.rv_model.specs.declared.state.Thread.{Thread}
 use Rattle.rv_model.specs.declared.state.State.{State}
 use Rattle.rv_model.specs.declared.state.Event.{Event}
 use Rattle.rv_model.specs.Thread.{no_thread}
-use Rattle.rv_model.specs.Run.{path_of, records_of, thread_logs, end_of, log_of, logged}
-use Rattle.rv_model.proofs.Difference.{length-thread_logs, thread_logs-at}
+use Rattle.rv_model.specs.Run.{nothing_logged, path_of, records_of, thread_logs, end_of, log_of, logged}
+use Rattle.rv_model.proofs.LogParts.{length-thread_logs, thread_logs-at}
 use Rattle.replay_check.specs.declared.met.Met.{Met}
 use Rattle.replay_check.specs.Met.{IsFront, HasMet, IsAllMet}
 use Rattle.replay_check.proofs.TestLemmas.{same_tests}
-use Rattle.replay_check.proofs.LoggedLemmas.{nothing_logged}
 use Rattle.replay_check.proofs.MetLemmas.{front_count}
 
 -- the logs of threads, one by one

@@ -21,10 +21,9 @@ use Rattle.rv_model.specs.declared.hearing.Outcome.{Outcome}
 use Rattle.rv_model.specs.declared.hearing.Outcome.TheVariants.{Faults, Goes}
 use Rattle.rv_model.specs.Thread.{losing, no_thread}
 use Rattle.rv_model.specs.Step.{thread_at, applied, child_of, effect, step, memory_of, next_instr, heard_at}
-use Rattle.rv_model.specs.Run.{logged, is_counted, agrees_by}
+use Rattle.rv_model.specs.Run.{nothing_logged, logged, is_counted, agrees_by}
 use Rattle.rv_model.proofs.Progress.{threads_then, own_then, other_then, IsQuiet, quiet-act_at}
 use Rattle.rv_model.proofs.Bounds.{AtMost, child_zero, kept_then}
-use Rattle.replay_check.proofs.LoggedLemmas.{nothing_logged}
 
 -- a step with this note leaves its thread below the bound
 abbrev IsBelow : ℕ → ℕ → Note → Type 0

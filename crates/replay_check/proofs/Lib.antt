@@ -1,5 +1,4 @@
 pub mod TestLemmas
-pub mod LoggedLemmas
 pub mod MetLemmas
 pub mod AllMetLemmas
 pub mod BoundLemmas

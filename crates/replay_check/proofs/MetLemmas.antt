@@ -13,7 +13,7 @@ use Rattle.rv_model.specs.declared.state.Event.{Event}
 use Rattle.rv_model.specs.declared.state.Note.{Note}
 use Rattle.rv_model.specs.declared.state.Note.TheVariants as note
 use Rattle.rv_model.specs.Run.{item_of, cons_some, path_of, record_in, records_of, logged, is_counted, option_test, agrees_by}
-use Rattle.rv_model.proofs.Difference.{path_of-append, records_of-append}
+use Rattle.rv_model.proofs.LogParts.{path_of-append, records_of-append}
 use Rattle.replay_check.specs.declared.met.Met.{Met}
 use Rattle.replay_check.specs.Met.{IsFront, HasMet, is_next, past_item, past_call, past}
 

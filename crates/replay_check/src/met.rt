@@ -7,10 +7,11 @@ ghost use Rattle.guest_calls.specs.Notes.{call_of};
 ghost use Rattle.guest_machine.specs.Notes.{note_of};
 ghost use Rattle.replay_check.specs.Met.{is_next, past, past_item, past_call};
 
-use crate::next::{is_counted, is_item_at, is_record_at, path_logged};
+use crate::next::is_record_at;
 use guest_calls::note::CallNote;
 use guest_machine::note::Note;
 use odr_log::log::{End, Log, PathItem};
+use rv_model::logged::{is_counted, is_item_at, path_logged};
 
 /// How much of a log has been met: the number of items of each thread's path, and of calls.
 #[derive(Clone, Copy, Debug)]
@@ -40,7 +41,7 @@ impl Met {
             let end = End::Faulted { tid, cause: *cause };
             return end.same(&log.end);
         }
-        if !is_counted(log, tid, at) {
+        if !is_counted(log, usize::from(tid), at) {
             return false;
         }
         match note {
@@ -58,7 +59,7 @@ impl Met {
         ensures past { IsTrue result → self.new ≡ past_item self.old tid }
     {
         let next = self.items[tid as usize];
-        if !is_item_at(path_logged(log, tid), next, item) {
+        if !is_item_at(path_logged(log, usize::from(tid)), next, item) {
             return false;
         }
         self.items[tid as usize] = next + 1;

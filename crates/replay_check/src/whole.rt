@@ -4,9 +4,9 @@ ghost use Rattle.std.specs.Prelude.{◌≡◌, ◌↔◌, ℕ, ◌<◌, ◌≤�
 ghost use Rattle.replay_check.specs.Met.{IsThreadMet, IsAllMet};
 
 use crate::met::Met;
-use crate::next::{path_logged, steps_logged};
 use guest_machine::machine::Machine;
 use odr_log::log::Log;
+use rv_model::logged::{path_logged, steps_logged};
 
 /// Whether a thread has retired the log's steps and met all of its path.
 fn is_thread_met(machine: &Machine<'_>, log: &Log, met: &Met, tid: u8) -> bool
@@ -14,8 +14,8 @@ fn is_thread_met(machine: &Machine<'_>, log: &Log, met: &Met, tid: u8) -> bool
     requires few { tid < 8 }
     ensures { IsTrue result ↔ IsThreadMet log.now machine.now.core met.now tid }
 {
-    machine.retired(tid) == steps_logged(log, tid)
-        && met.items[tid as usize] == path_logged(log, tid).len()
+    machine.retired(tid) == steps_logged(log, usize::from(tid))
+        && met.items[tid as usize] == path_logged(log, usize::from(tid)).len()
 }
 
 /// Whether every thread has.

@@ -45,7 +45,8 @@ child_zero local (note.Branch taken) u = refl
 child_zero local (note.Jump target) u = refl
 child_zero local (note.Faulted fault) u = refl
 
-beyond : (t u : ℕ) (writes : List Write) (threads child : List Thread) (after : Thread) → length threads ≤ u
+-- a new thread stands behind the others
+pub beyond : (t u : ℕ) (writes : List Write) (threads child : List Thread) (after : Thread) → length threads ≤ u
     → get_or (threads_then t writes threads child after) u no_thread ≡ get_or child (u - length threads) no_thread
 beyond t u writes threads child after past =
     get_or-append_right (set (map (losing writes) threads) t after) child (length threads) u no_thread

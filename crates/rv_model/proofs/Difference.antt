@@ -1,7 +1,7 @@
 -- There is no first difference exactly where the schedule has the log.
-use Rattle.std.specs.Prelude.{◌≡◌, ◌↔◌, ℕ, zero, suc, ◌+◌, ◌<◌, Bool, true, false, ◌&&◌, cond, List, [], ◌∷◌, ◌++◌, length, nat_eq, nat_lt, slice_get, Option, Some, None, option_map, is_none, is_some, refl}
+use Rattle.std.specs.Prelude.{◌≡◌, ◌↔◌, ℕ, suc, ◌<◌, Bool, true, false, ◌&&◌, cond, List, [], ◌∷◌, ◌++◌, length, nat_lt, slice_get, Option, Some, None, option_map, is_none, is_some, refl}
 use Rattle.std.specs.List.{list_all}
-use Rattle.std.proofs.Common.{sym, ◌∙◌, ap, subst, arith, get_or, eq-eqb}
+use Rattle.std.proofs.Common.{sym, ◌∙◌, ap, subst, arith, eq-eqb}
 use Rattle.std.proofs.lemmas.Bool.{and_parts, and_from, ltb-true, lt-ltb, false≢true}
 use Rattle.std.proofs.lemmas.List.{append_assoc, append-nil}
 use Rattle.elf_image.specs.Layout.{Layout}
@@ -14,7 +14,6 @@ use Rattle.odr_log.specs.declared.log.End.TheVariants as end
 use Rattle.odr_log.specs.Tape.{tape_of}
 use Rattle.odr_log.specs.Same.{same_item, same_rec, same_end, same_log}
 use Rattle.odr_log.specs.SameLaws.{same_item-exact, same_rec-exact, same_end-exact, same_log-exact}
-use Rattle.rv_model.specs.declared.state.Thread.{Thread}
 use Rattle.rv_model.specs.declared.state.Core.{Core}
 use Rattle.rv_model.specs.declared.state.State.{State}
 use Rattle.rv_model.specs.declared.state.Halt.{Halt}
@@ -22,12 +21,12 @@ use Rattle.rv_model.specs.declared.state.Halt.TheVariants as halt
 use Rattle.rv_model.specs.declared.state.Note.{Note}
 use Rattle.rv_model.specs.declared.state.Note.TheVariants as note
 use Rattle.rv_model.specs.declared.state.Event.{Event}
-use Rattle.rv_model.specs.Thread.{no_thread}
 use Rattle.rv_model.specs.declared.hearing.Outcome.{Outcome}
 use Rattle.rv_model.specs.declared.hearing.Outcome.TheVariants.{Faults, Goes}
 use Rattle.rv_model.specs.Step.{thread_at, applied, effect, step, enabled, is_enabled, opening, memory_of, next_instr, heard_at}
-use Rattle.rv_model.specs.Run.{event_of, Runs, final, events, item_of, cons_some, path_of, record_in, records_of, thread_logs, end_by, log_of, HasLog, logged, option_test, is_counted, next_item, next_record, agrees_by, agrees, differs_from, first_diff}
+use Rattle.rv_model.specs.Run.{event_of, Runs, final, events, item_of, cons_some, path_of, record_in, records_of, thread_logs, end_by, log_of, HasLog, option_test, is_counted, next_item, next_record, agrees_by, agrees, differs_from, first_diff}
 use Rattle.rv_model.proofs.Progress.{Grows, gone_grows, gone_retires, IsQuiet, quiet-act_at}
+use Rattle.rv_model.proofs.LogParts.{path_of-append, records_of-append, slice_get-middle, length-thread_logs, logged-at}
 
 -- a step of a thread that is there
 
@@ -35,7 +34,7 @@ outcome_grows : (core : Core) (t : ℕ) (reservation : Option ℕ) (o : Outcome)
 outcome_grows core t reservation (Faults fault) within = record { count = omega arith; retired = λ (u : ℕ) (w : u < length core.threads). omega arith }
 outcome_grows core t reservation (Goes local writes shown) within = gone_grows core t reservation local writes shown within
 
-step_grows : (image : Layout) (state : State) (t : ℕ) → t < length state.core.threads → Grows state.core (step image state t).state.core
+pub step_grows : (image : Layout) (state : State) (t : ℕ) → t < length state.core.threads → Grows state.core (step image state t).state.core
 unfolding step effect
 step_grows image state t within = outcome_grows state.core t _ _ within
 
@@ -76,7 +75,7 @@ pub enabled_within : (image : Layout) (state : State) (t : ℕ) → is_enabled i
 unfolding is_enabled enabled
 enabled_within image state t e = ltb-true t (length state.core.threads) (and_parts _ _ (and_parts _ _ (and_parts _ _ e).0).0).0
 
-enabled_goes : (image : Layout) (state : State) (t : ℕ) → is_enabled image state t ≡ true → is_none state.core.halt ≡ true
+pub enabled_goes : (image : Layout) (state : State) (t : ℕ) → is_enabled image state t ≡ true → is_none state.core.halt ≡ true
 unfolding is_enabled enabled
 enabled_goes image state t e = (and_parts _ _ (and_parts _ _ e).0).1
 
@@ -91,7 +90,7 @@ grows_on a b c one two = record {
   retired = λ (u : ℕ) (w : u < length a.threads). omega (arith, one.retired u w, two.retired u (omega (arith, one.count)));
 }
 
-run_grows : (image : Layout) (state : State) (schedule : List ℕ) → Runs image state schedule → Grows state.core (final image state schedule).core
+pub run_grows : (image : Layout) (state : State) (schedule : List ℕ) → Runs image state schedule → Grows state.core (final image state schedule).core
 run_grows image state [] runs = grows_same state.core
 run_grows image state (t ∷ schedule) runs =
     grows_on state.core (step image state t).state.core (final image (step image state t).state schedule).core
@@ -116,44 +115,6 @@ later t before after end (note.Jump target) within grows halts shows = omega (ar
 later t before after end (note.Called call) within grows halts shows = omega (arith, grows.retired t within)
 
 -- the parts of a log
-
-cons_some-append : {A : Type 0} (o : Option A) (xs ys : List A) → cons_some o (xs ++ ys) ≡ cons_some o xs ++ ys
-cons_some-append None xs ys = refl
-cons_some-append (Some x) xs ys = refl
-
-path_by-append : (b : Bool) (o : Option PathItem) (xs ys : List PathItem) → cond b (cons_some o (xs ++ ys)) (xs ++ ys) ≡ cond b (cons_some o xs) xs ++ ys
-path_by-append true o xs ys = cons_some-append o xs ys
-path_by-append false o xs ys = refl
-
-pub path_of-append : (t : ℕ) (xs ys : List Event) → path_of t (xs ++ ys) ≡ path_of t xs ++ path_of t ys
-path_of-append t [] ys = refl
-path_of-append t (x ∷ xs) ys =
-    ap (λ (p : List PathItem). cond (nat_eq x.thread t) (cons_some (item_of x.note) p) p) (path_of-append t xs ys)
-    ∙ path_by-append (nat_eq x.thread t) (item_of x.note) (path_of t xs) (path_of t ys)
-
-pub records_of-append : (xs ys : List Event) → records_of (xs ++ ys) ≡ records_of xs ++ records_of ys
-records_of-append [] ys = refl
-records_of-append (x ∷ xs) ys = ap (cons_some (record_in x)) (records_of-append xs ys) ∙ cons_some-append (record_in x) (records_of xs) (records_of ys)
-
-slice_get-middle : {A : Type 0} (xs : List A) (y : A) (ys : List A) → slice_get (xs ++ y ∷ ys) (length xs) ≡ Some y
-slice_get-middle [] y ys = refl
-slice_get-middle (x ∷ xs) y ys = slice_get-middle xs y ys
-
-pub length-thread_logs : (n : ℕ) (threads : List Thread) (happened : List Event) → length (thread_logs n threads happened) ≡ length threads
-length-thread_logs n [] happened = refl
-length-thread_logs n (x ∷ xs) happened = ap suc (length-thread_logs (n + 1) xs happened)
-
-pub thread_logs-at : (n i j : ℕ) (threads : List Thread) (happened : List Event) (d : ThreadLog) → i < length threads → n + i ≡ j
-    → get_or (thread_logs n threads happened) i d ≡ record { steps = (get_or threads i no_thread).retired; path = path_of j happened }
-thread_logs-at n i j [] happened d within e = absurd (omega arith)
-thread_logs-at n zero j (x ∷ xs) happened d within e =
-    let same : n ≡ j = omega arith in ap (λ (k : ℕ). let made : ThreadLog = record { steps = x.retired; path = path_of k happened } in made) same
-thread_logs-at n (suc i) j (x ∷ xs) happened d within e = thread_logs-at (n + 1) i j xs happened d (omega arith) (omega arith)
-
-logged-at : (state : State) (happened : List Event) (t : ℕ) → t < length state.core.threads
-    → logged (log_of state happened) t ≡ record { steps = (thread_at state.core t).retired; path = path_of t happened }
-unfolding log_of
-logged-at state happened t within = thread_logs-at 0 t t state.core.threads happened _ within (omega arith)
 
 counted_lt : (state : State) (happened : List Event) (t : ℕ) → t < length state.core.threads → nat_lt t (length (log_of state happened).threads) ≡ true
 unfolding log_of
@@ -191,8 +152,13 @@ ended_by : (state : State) (happened : List Event) (t : ℕ) (fault : _) → sta
 unfolding log_of
 ended_by state happened t fault e = ap (λ (o : Option Halt). end_by o (list_all is_some state.core.calls.ended)) e
 
-test_some : {A : Type 0} (test : A → Bool) (o : Option A) (x : A) → o ≡ Some x → test x ≡ true → option_test test o ≡ true
+pub test_some : {A : Type 0} (test : A → Bool) (o : Option A) (x : A) → o ≡ Some x → test x ≡ true → option_test test o ≡ true
 test_some test o x is passes = ap (option_test test) is ∙ passes
+
+-- and back
+pub some_passes : {A : Type 0} (test : A → Bool) (o : Option A) → option_test test o ≡ true → (x : A) × (o ≡ Some x) × (test x ≡ true)
+some_passes test None e = absurd (false≢true e)
+some_passes test (Some x) e = (x, refl, e)
 
 -- a step of a run agrees with the run's own log
 agrees_own : (state : State) (past rest : List Event) (t at : ℕ) (shown : Note) → t < length state.core.threads → Shows t at state.core shown
@@ -231,11 +197,11 @@ agrees_along image log state past t schedule able runs is =
     (agrees_own (final image (step image state t).state schedule) past (events image (step image state t).state schedule) t (thread_at state.core t).retired
     (step image state t).note (omega (arith, grows.count, on.count)) shows)
 
-none_map : (o : Option ℕ) → option_map suc o ≡ None → o ≡ None
+pub none_map : (o : Option ℕ) → option_map suc o ≡ None → o ≡ None
 none_map None e = refl
 none_map (Some n) e = absurd (let f : Some (suc n) ≡ None = e in cc)
 
-step_none : (b : Bool) (o : Option ℕ) → cond b (option_map suc o) (Some 0) ≡ None → (b ≡ true) × (o ≡ None)
+pub step_none : (b : Bool) (o : Option ℕ) → cond b (option_map suc o) (Some 0) ≡ None → (b ≡ true) × (o ≡ None)
 step_none true o e = (refl, none_map o e)
 step_none false o e = absurd (let f : Some 0 ≡ None = e in cc)
 

@@ -1,10 +1,9 @@
 pub mod Progress
+pub mod LogParts
 pub mod Difference
-pub mod NewestLemmas
-pub mod Spans
-pub mod ShortCalls
-pub mod Counts
-pub mod LoggedLemmas
 pub mod Bounds
 pub mod SoFar
+pub mod LeastPlace
 pub mod Genuine
+pub mod SpawnLemmas
+pub mod Acts

@@ -1,9 +1,10 @@
 -- What a step keeps: threads stay, and none has retired less than before. Only a fault is noted as a fault.
-use Rattle.std.specs.Prelude.{◌≡◌, ◌≢◌, ℕ, ◌+◌, ◌*◌, ◌/◌, ◌<◌, ◌≤◌, Bool, true, false, cond, List, [], ◌++◌, length, map, Option, Some, None, Result, Ok, Err, refl}
+use Rattle.std.specs.Prelude.{◌≡◌, ◌≢◌, ℕ, ◌+◌, ◌*◌, ◌/◌, ◌<◌, ◌≤◌, ◌&&◌, Bool, true, false, not, cond, nat_lt, List, [], ◌++◌, length, map, Option, Some, None, is_none, Result, Ok, Err, refl}
 use Rattle.std.proofs.Common.{sym, ◌∙◌, ap, arith, get_or, set, eqb, eq-eqb}
 use Rattle.std.proofs.lemmas.Bool.{eqb-true, false≢true}
 use Rattle.std.proofs.lemmas.List.{get_or-set_same, get_or-set_other, length-set, length-map, get_or-map, length-append, get_or_append_left}
 use Rattle.elf_image.specs.declared.write.Write.{Write}
+use Rattle.elf_image.specs.Layout.{Layout}
 use Rattle.elf_image.specs.Memory.{writes_of, bytes_of}
 use Rattle.rv32_decode.specs.declared.instr.Instr.{Instr}
 use Rattle.rv32_decode.specs.declared.instr.Instr.TheVariants as instr
@@ -12,6 +13,8 @@ use Rattle.odr_log.specs.declared.log.Cause.TheVariants as cause
 use Rattle.rv_model.specs.declared.state.Local.{Local}
 use Rattle.rv_model.specs.declared.state.Thread.{Thread}
 use Rattle.rv_model.specs.declared.state.Core.{Core}
+use Rattle.rv_model.specs.declared.state.State.{State}
+use Rattle.rv_model.specs.declared.state.Stepped.{Stepped}
 use Rattle.rv_model.specs.declared.state.Note.{Note}
 use Rattle.rv_model.specs.declared.state.Note.TheVariants as note
 use Rattle.rv_model.specs.Thread.{losing, no_thread, register, onward, gone_to, with_register, next_pc}
@@ -20,8 +23,9 @@ use Rattle.rv_model.specs.declared.hearing.Heard.{Heard}
 use Rattle.rv_model.specs.declared.hearing.Outcome.{Outcome}
 use Rattle.rv_model.specs.declared.hearing.Outcome.TheVariants.{Faults, Goes}
 use Rattle.rv_model.specs.Values.{taken_of, plus_offset, extended, amo_of}
-use Rattle.rv_model.specs.Instruction.{act, act_at, branches, loads, atomically, is_aligned, may_amo, word_in}
-use Rattle.rv_model.specs.Step.{thread_at, gone, child_of}
+use Rattle.rv_model.specs.Instruction.{act, act_at, asked_at, reserving_at, branches, loads, atomically, is_aligned, may_amo, word_in}
+use Rattle.rv_model.specs.Calls.{end_value, waits}
+use Rattle.rv_model.specs.Step.{thread_at, gone, child_of, applied, effect, after_effect, step, enabled, is_enabled, memory_of, instr_at, next_instr, reach_at, heard_at}
 
 pub record Grows (old new : Core) : Type 0 where
   pub count : length old.threads ≤ length new.threads
@@ -135,3 +139,37 @@ quiet-act local (instr.Amo op rd rs1 rs2 aq rl) heard =
 pub quiet-act_at : (local : Local) (fetched : Result Instr Cause) (heard : Heard) → IsQuiet (act_at local fetched heard)
 quiet-act_at local (Err fault) heard = tt
 quiet-act_at local (Ok instruction) heard = quiet-act local instruction heard
+
+-- ---- a step, spelled out
+
+abbrev step_by : State → ℕ → Local → Option ℕ → Result Instr Cause → Heard → Stepped
+step_by state t local reservation fetched heard = after_effect state (applied state.core t (reserving_at local fetched reservation) (act_at local fetched heard))
+
+pub raw_step : (image : Layout) (state : State) (t : ℕ)
+    → step image state t
+    ≡ after_effect state (
+    applied state.core t (reserving_at (thread_at state.core t).local (next_instr image state.core t) (thread_at state.core t).reservation)
+    (act_at (thread_at state.core t).local (next_instr image state.core t) (heard_at image (memory_of image state) state.core t))
+    )
+unfolding step effect
+raw_step image state t = refl
+
+-- the same by the parts of the thread
+pub step_is : (image : Layout) (state : State) (t : ℕ) (local : Local) (reservation : Option ℕ) (heard : Heard)
+    → (thread_at state.core t).local ≡ local → (thread_at state.core t).reservation ≡ reservation → heard_at image (memory_of image state) state.core t ≡ heard
+    → step image state t
+    ≡ after_effect state (applied state.core t (reserving_at local (instr_at image local.pc) reservation) (act_at local (instr_at image local.pc) heard))
+step_is image state t local reservation heard local_is reservation_is heard_is =
+    raw_step image state t
+    ∙ ap (λ (l : Local). step_by state t l (thread_at state.core t).reservation (instr_at image l.pc) (heard_at image (memory_of image state) state.core t)) local_is
+    ∙ ap (λ (r : Option ℕ). step_by state t local r (instr_at image local.pc) (heard_at image (memory_of image state) state.core t)) reservation_is
+    ∙ ap (step_by state t local reservation (instr_at image local.pc)) heard_is
+
+pub raw_enabled : (image : Layout) (state : State) (t : ℕ)
+    → is_enabled image state t
+    ≡ (
+    nat_lt t (length state.core.threads) && is_none (end_value state.core.calls t) && is_none state.core.halt
+    && not (waits state.core.calls t (asked_at (thread_at state.core t).local (next_instr image state.core t) (reach_at image (memory_of image state) state.core t)))
+    )
+unfolding is_enabled enabled
+raw_enabled image state t = refl

@@ -1,18 +1,37 @@
 -- How far the search for the first difference has come.
-use Rattle.std.specs.Prelude.{◌≡◌, ℕ, ◌+◌, ◌<◌, List, [], ◌∷◌, ◌++◌, length, drop, Option, Some, None, option_map, Bool, true, cond, suc, refl}
+use Rattle.std.specs.Prelude.{◌≡◌, ℕ, zero, ◌+◌, ◌<◌, ◌≤◌, List, [], ◌∷◌, ◌++◌, length, drop, Option, Some, None, option_map, Bool, true, cond, suc, refl}
 use Rattle.std.proofs.Common.{sym, ◌∙◌, ap, subst, arith, get_or}
 use Rattle.std.proofs.Math.Seq.{drop-cons}
 use Rattle.elf_image.specs.Layout.{Layout}
 use Rattle.odr_log.specs.declared.log.Log.{Log}
+use Rattle.odr_log.specs.Tape.{tape_of}
 use Rattle.rv_model.specs.declared.state.State.{State}
 use Rattle.rv_model.specs.declared.state.Event.{Event}
-use Rattle.rv_model.specs.Step.{step}
+use Rattle.rv_model.specs.declared.state.Local.{Local}
+use Rattle.rv_model.specs.Thread.{first_local, fresh, no_thread}
+use Rattle.rv_model.specs.Step.{opening, step}
 use Rattle.rv_model.specs.Run.{first_diff, differs_from, fits, event_of}
 use Rattle.rv_model.proofs.Bounds.{AtMost, step_bound}
 
 pub record SoFar (image : Layout) (log : Log) (schedule : List ℕ) (place : ℕ) (state : State) (happened : List Event) : Type 0 where
   pub rest : first_diff image log schedule ≡ option_map (λ (k : ℕ). place + k) (differs_from image log state happened (drop place schedule))
   pub most : AtMost place state.core
+
+from_zero : (o : Option ℕ) → o ≡ option_map (λ (k : ℕ). 0 + k) o
+from_zero None = refl
+from_zero (Some k) = let e : k ≡ 0 + k = omega arith in ap Some e
+
+fresh_most : (local : Local) (u : ℕ) → (get_or (fresh local ∷ []) u no_thread).retired ≤ 0
+fresh_most local zero = omega arith
+fresh_most local (suc u) = omega arith
+
+-- before the first place
+pub so_far_none : (image : Layout) (log : Log) (schedule : List ℕ) → SoFar image log schedule 0 (opening image (tape_of log)) []
+unfolding first_diff
+so_far_none image log schedule = record {
+  rest = from_zero (differs_from image log (opening image (tape_of log)) [] schedule);
+  most = record { each = λ (u : ℕ). fresh_most (first_local image.entry) u };
+}
 
 shifted : (place : ℕ) (o : Option ℕ) → option_map (λ (k : ℕ). place + k) (option_map suc o) ≡ option_map (λ (k : ℕ). place + 1 + k) o
 shifted place None = refl

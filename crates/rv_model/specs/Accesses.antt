@@ -2,7 +2,6 @@
 use Rattle.std.specs.Prelude.{ℕ, ◌+◌, Bool, true, false, List, [], ◌∷◌, ◌++◌, if◌then◌else◌}
 use Rattle.rv32_decode.specs.declared.instr.Instr.{Instr}
 use Rattle.rv32_decode.specs.declared.instr.Instr.TheVariants as instr
-use Rattle.odr_log.specs.declared.log.Call.{Call}
 use Rattle.odr_log.specs.declared.log.Call.TheVariants as call
 use Rattle.odr_log.specs.declared.log.Pos.{Pos}
 use Rattle.rv_model.specs.declared.state.Note.{Note}

@@ -1,5 +1,5 @@
 -- Whether the calls of a log could be made in the order of their records, by the table of guest calls.
-use Rattle.std.specs.Prelude.{◌≡◌, ℕ, ◌<◌, ◌≤◌, ◌⊎◌, Bool, true, false, List, [], ◌∷◌, length, Option, Some, None, is_some, AllPairs}
+use Rattle.std.specs.Prelude.{◌≡◌, ◌<◌, ◌≤◌, ◌⊎◌, Bool, true, false, List, [], ◌∷◌, length, Option, None, is_some, AllPairs}
 use Rattle.std.specs.List.{list_all, fold}
 use Rattle.odr_log.specs.declared.log.Call.{Call}
 use Rattle.odr_log.specs.declared.log.Call.TheVariants as call

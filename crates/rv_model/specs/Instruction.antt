@@ -204,3 +204,43 @@ reserving local (instr.Amo op rd rs1 rs2 aq rl) reservation = reservation
 abbrev pub reserving_at : Local → Result Instr Cause → Option ℕ → Option ℕ
 reserving_at local (Err fault) reservation = reservation
 reserving_at local (Ok instruction) reservation = reserving local instruction reservation
+
+-- an instruction that neither accesses memory nor calls
+abbrev pub IsAlone : Instr → Type 0
+IsAlone (instr.Load op rd rs1 offset) = ⊥
+IsAlone (instr.Store op rs1 rs2 offset) = ⊥
+IsAlone (instr.LoadReserved rd rs1 aq rl) = ⊥
+IsAlone (instr.StoreConditional rd rs1 rs2 aq rl) = ⊥
+IsAlone (instr.Amo op rd rs1 rs2 aq rl) = ⊥
+IsAlone instr.Ecall = ⊥
+IsAlone other = Unit {0}
+
+-- an instruction of the extension A
+abbrev pub IsAtomic : Instr → Type 0
+IsAtomic (instr.LoadReserved rd rs1 aq rl) = Unit {0}
+IsAtomic (instr.StoreConditional rd rs1 rs2 aq rl) = Unit {0}
+IsAtomic (instr.Amo op rd rs1 rs2 aq rl) = Unit {0}
+IsAtomic other = ⊥
+
+-- Whether an instruction uses the bytes that its access meets: a load, LR and AMO at a word that may be theirs, and a
+-- write call that is not too long.
+unfoldable pub reads_by : Local → Instr → Bool
+reads_by local (instr.Load op rd rs1 offset) = true
+reads_by local (instr.LoadReserved rd rs1 aq rl) = is_aligned (register local rs1)
+reads_by local (instr.Amo op rd rs1 rs2 aq rl) = is_aligned (register local rs1)
+reads_by local instr.Ecall = nat_eq (number_of_call local) 8 && fits_buffer (second_argument local)
+reads_by local (instr.Lui rd imm) = false
+reads_by local (instr.Auipc rd imm) = false
+reads_by local (instr.Jal rd offset) = false
+reads_by local (instr.Jalr rd rs1 offset) = false
+reads_by local (instr.Branch op rs1 rs2 offset) = false
+reads_by local (instr.Store op rs1 rs2 offset) = false
+reads_by local (instr.Imm op rd rs1 imm) = false
+reads_by local (instr.Op op rd rs1 rs2) = false
+reads_by local (instr.Fence rd rs1 imm) = false
+reads_by local instr.Ebreak = false
+reads_by local (instr.StoreConditional rd rs1 rs2 aq rl) = false
+
+abbrev pub reads_at : Local → Result Instr Cause → Bool
+reads_at local (Err fault) = false
+reads_at local (Ok instruction) = reads_by local instruction

@@ -4,10 +4,11 @@ pub mod Calls
 pub mod Instruction
 pub mod Step
 pub mod Run
+pub mod FirstDifference
+pub mod Noted
+pub mod CallTable
 pub mod Law
 pub mod Newest
-pub mod Short
-pub mod Met
 pub mod Walk
 pub mod Accesses
 pub mod CallsFit

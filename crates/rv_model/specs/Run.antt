@@ -108,9 +108,13 @@ pub record HasLog (image : Layout) (log : Log) (schedule : List ℕ) : Type 0 wh
 abbrev pub Genuine : Layout → Log → Type 0
 Genuine image log = (schedule : List ℕ) × HasLog image log schedule
 
+-- a thread that did nothing
+abbrev pub nothing_logged : ThreadLog
+nothing_logged = record { steps = 0; path = [] }
+
 -- what the log says of a thread, nothing for one that it has not
 abbrev pub logged : Log → ℕ → ThreadLog
-logged log thread = slice_index_or log.threads thread (record { steps = 0; path = [] })
+logged log thread = slice_index_or log.threads thread nothing_logged
 
 abbrev pub option_test : {A : Type 0} → (A → Bool) → Option A → Bool
 option_test test None = false

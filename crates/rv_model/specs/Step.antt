@@ -1,6 +1,7 @@
 -- The state of the guest and its one atomic step: one instruction of one thread, with all its memory bytes and its
 -- whole guest call. The memory is a list of writes, the newest first.
 use Rattle.std.specs.Prelude.{ℕ, ◌+◌, Bool, not, ◌&&◌, List, [], ◌∷◌, ◌++◌, length, map, nat_lt, slice_index_or, slice_set, Option, Some, None, is_none, Result, Ok, Err}
+use Rattle.std.specs.List.{filter, range_with_len}
 use Rattle.elf_image.specs.declared.write.Write.{Write}
 use Rattle.elf_image.specs.Layout.{Layout, fetch_of}
 use Rattle.elf_image.specs.Memory.{Cells, opening_cells, cells_after, load_bytes, all_writable}
@@ -146,3 +147,7 @@ step image state thread = after_effect state (effect image (memory_of image stat
 
 unfoldable pub is_enabled : Layout → State → ℕ → Bool
 is_enabled image state thread = enabled image (memory_of image state) state.core thread
+
+-- the threads of a state that are enabled, in rising order
+abbrev pub enabled_in : Layout → State → List ℕ
+enabled_in image state = filter (is_enabled image state) (range_with_len 0 (length state.core.threads))

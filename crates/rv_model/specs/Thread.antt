@@ -9,9 +9,9 @@ use Rattle.rv_model.specs.declared.state.Thread.{Thread}
 abbrev pub stack_top : ℕ → ℕ
 stack_top thread = 0x70000000 + thread * 0x10000 + 16384
 
--- x0 reads 0, and writes to it are dropped
+-- x0 is 0, whatever the list holds in its place, and writes to it are dropped
 abbrev pub register : Local → ℕ → ℕ
-register local number = slice_index local.registers number
+register local number = if nat_eq number 0 then 0 else slice_index local.registers number
 
 abbrev pub with_register : Local → ℕ → ℕ → Local
 with_register local number value = if nat_eq number 0 then local else record local { registers = slice_set local.registers number value }

@@ -14,7 +14,6 @@ use Rattle.odr_log.specs.declared.log.CallRec.{CallRec}
 use Rattle.odr_log.specs.declared.log.End.{End}
 use Rattle.odr_log.specs.declared.log.End.TheVariants as end
 use Rattle.odr_log.specs.declared.log.Log.{Log}
-use Rattle.odr_log.specs.declared.log.ThreadLog.{ThreadLog}
 use Rattle.rv_model.specs.declared.state.Event.{Event}
 use Rattle.rv_model.specs.declared.state.Note.{Note}
 use Rattle.rv_model.specs.declared.state.Note.TheVariants as note

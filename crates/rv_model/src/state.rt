@@ -3,7 +3,8 @@ use odr_list::bytes::Bytes;
 use odr_list::list::List;
 use odr_log::log::{Call, Cause};
 
-/// What a thread alone has: the address of its next instruction, and its registers (x0 stays 0).
+/// What a thread alone has: the address of its next instruction, and its registers. x0 reads 0
+/// whatever the first of them is.
 #[derive(Clone, Copy, Debug)]
 pub struct Local {
     pub pc: u32,

@@ -11,11 +11,14 @@ fn stack_top(thread: u8) -> u32
 }
 
 impl Local {
-    /// A register; x0 is 0.
+    /// A register; x0 is 0, whatever stands in its place.
     pub fn register(&self, number: u8) -> u32
         requires { number < 32 }
         ensures { result ≡ register self.now number }
     {
+        if number == 0 {
+            return 0;
+        }
         self.registers[number as usize]
     }
 

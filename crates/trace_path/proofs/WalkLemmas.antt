@@ -1,6 +1,7 @@
 -- Steps in a row along the log of a thread are the thread's walk.
 use Rattle.std.specs.Prelude.{◌≡◌, ℕ, zero, suc, ◌+◌, ◌<◌, Bool, true, false, cond, List, [], ◌∷◌, ◌++◌, length, Option, Some, None, All, AllPairs}
 use Rattle.std.proofs.Common.{refl, sym, ◌∙◌, ap, subst, arith, eq-eqb}
+use Rattle.std.proofs.lemmas.Bool.{false_from_ne_true}
 use Rattle.std.proofs.lemmas.List.Kept.{AllPairs-cons}
 use Rattle.elf_image.specs.Layout.{Layout}
 use Rattle.odr_log.specs.declared.log.CallRec.{CallRec}
@@ -9,6 +10,7 @@ use Rattle.rv_model.specs.declared.state.Note.{Note}
 use Rattle.rv_model.specs.declared.walk.Place.{Place}
 use Rattle.rv_model.specs.Run.{item_of, cons_some, path_of, record_in, records_of}
 use Rattle.rv_model.specs.Walk.{is_last, Leads, events_from}
+use Rattle.rv_model.proofs.LogParts.{cons_some-append}
 use Rattle.trace_path.specs.Steps.{Stand, Next, next, Walked}
 use Rattle.trace_path.proofs.StepLemmas.{Parts, FirstOf, event_at, some_same, next_parts, parts_next}
 
@@ -25,10 +27,6 @@ rest_of : (thread : ℕ) (o : Option CallRec) (whole records : List CallRec) →
 rest_of thread None whole records e are = subst (AreOf thread) e are
 rest_of thread (Some r) whole records e are = (subst (AreOf thread) e are).1
 
-pub not_true : (b : Bool) → (b ≡ true → ⊥) → b ≡ false
-not_true true never = absurd (never refl)
-not_true false never = refl
-
 -- each note but the last is neither an exit nor the end of its thread
 abbrev pub End : List Note → Type 0
 End = AllPairs (λ (earlier later : Note). is_last earlier ≡ false)
@@ -43,7 +41,7 @@ pub end_more : (shown : Note) (notes : List Note) → (is_last shown ≡ true �
 end_more shown [] goes ends = AllPairs-cons (λ (earlier later : Note). is_last earlier ≡ false) shown [] (λ (k : ℕ) (d : Note) (w : k < 0). absurd (omega arith)) ends
 end_more shown (next ∷ notes) goes ends =
     AllPairs-cons (λ (earlier later : Note). is_last earlier ≡ false) shown (next ∷ notes)
-    (λ (k : ℕ) (d : Note) (w : k < length (next ∷ notes)). not_true (is_last shown) (λ (e : is_last shown ≡ true). let f : next ∷ notes ≡ [] = goes e in cc)) ends
+    (λ (k : ℕ) (d : Note) (w : k < length (next ∷ notes)). false_from_ne_true (is_last shown) (λ (e : is_last shown ≡ true). let f : next ∷ notes ≡ [] = goes e in cc)) ends
 
 pub end_rest : (shown : Note) (notes : List Note) → End (shown ∷ notes) → End notes
 end_rest shown notes ends i j d before within =
@@ -68,10 +66,6 @@ pub live_rest : (shown : Note) (notes : List Note) → Live (shown ∷ notes) �
 live_rest shown notes live k d within = live (suc k) d (let h : k < length notes = within in omega arith)
 
 -- the items and records of a thread's own steps
-
-cons_some-append : {A : Type 0} (o : Option A) (xs ys : List A) → cons_some o (xs ++ ys) ≡ cons_some o xs ++ ys
-cons_some-append None xs ys = refl
-cons_some-append (Some x) xs ys = refl
 
 pub path_own : (thread step : ℕ) (shown : Note) (notes : List Note)
     → path_of thread (events_from thread step (shown ∷ notes)) ≡ cons_some (item_of shown) (path_of thread (events_from thread (step + 1) notes))
@@ -160,7 +154,7 @@ leads_walked image thread from (place ∷ places) (shown ∷ notes) after leads 
       records = records_of (events_from thread (from.step + 1) notes);
     } in
     let p : Parts image thread from place shown mid = record {
-      going = not_true from.over (λ (over : from.over ≡ true). let f : shown ∷ notes ≡ [] = going over in cc);
+      going = false_from_ne_true from.over (λ (over : from.over ≡ true). let f : shown ∷ notes ≡ [] = going over in cc);
       pc = leads.0;
       instr = leads.1;
       goes = leads.2.1;

@@ -2,7 +2,7 @@
 use Rattle.std.specs.Prelude.{◌≡◌, ℕ, zero, suc, ◌+◌, ◌*◌, ◌^◌, ◌<◌, ◌≤◌, Bool, true, false, not, ◌&&◌, cond, List, [], ◌∷◌, ◌++◌, length, slice_get, Option, Some, None, option_map, All}
 use Rattle.std.specs.Result.{result_ok}
 use Rattle.std.proofs.Common.{refl, sym, ◌∙◌, ap, subst, arith, get_or, below_more}
-use Rattle.std.proofs.lemmas.Bool.{and_parts}
+use Rattle.std.proofs.lemmas.Bool.{and_parts, and_from, not-true}
 use Rattle.std.proofs.lemmas.List.{length_push, get_or_append_left, get_or_at, get_or_default, ext_get_or}
 use Rattle.std.proofs.lemmas.Option.{slice_get_within, slice_get-get_or, get_or_from_slice_get}
 use Rattle.elf_image.specs.Layout.{Layout}
@@ -85,10 +85,6 @@ faults_case : (b : Bool) (o : FaultPlace) (fault : Option FaultPlace) → option
 faults_case true o fault e = (refl, some_same (Some o) fault e)
 faults_case false o fault e = absurd (let f : None ≡ Some fault = e in cc)
 
-not_over : (b : Bool) → not b ≡ true → b ≡ false
-not_over true e = absurd (cc)
-not_over false e = refl
-
 fault_by : (image : Layout) (log : Log) (thread : ℕ) (cause : Cause) (places : List Place) (notes : List Note) (stop : Stop) (fault : Option FaultPlace)
     → StopsAt image log thread places notes stop
     → option_map (λ (at : FaultPlace). Some at) (faults_at image stop cause) ≡ Some fault
@@ -97,7 +93,7 @@ fault_by image log thread cause places notes stop fault stops e =
     let found = faults_case (not stop.over && may_fault cause stop.pc (instr_at image stop.pc)) (at_stop image stop) fault e in
     let both = and_parts (not stop.over) (may_fault cause stop.pc (instr_at image stop.pc)) found.0 in (
       found.1,
-      record { walk = stops.walk; live = stops.live.0 (not_over stop.over both.0); pc = stops.pc; fits = both.1; instr = refl },
+      record { walk = stops.walk; live = stops.live.0 (not-true stop.over both.0); pc = stops.pc; fits = both.1; instr = refl },
     )
 
 fault_from : (image : Layout) (log : Log) (walk : Walk) (stops : List Stop) (thread : ℕ) (cause : Cause) (o : Option Stop) (fault : Option FaultPlace)
@@ -141,10 +137,6 @@ gathered_traced image log g fault all callers e =
     }
 
 -- Where a fault fits, the thread's stop gives it.
-and_from : (a b : Bool) → a ≡ true → b ≡ true → (a && b) ≡ true
-and_from true b p q = q
-and_from false b p q = absurd (let f : false ≡ true = p in cc)
-
 fault_given : (image : Layout) (log : Log) (thread : ℕ) (cause : Cause) (places others : List Place) (notes shown : List Note) (stop : Stop) (at : FaultPlace)
     → StopsAt image log thread places notes stop → FaultsAt image log thread cause others shown at
     → faults_at image stop cause ≡ Some (at_stop image stop)

@@ -7,6 +7,7 @@ ghost use Rattle.trace_path.specs.Steps.{told_at, told_by};
 ghost use Rattle.trace_path.specs.Items.{jump_of, branch_of};
 
 use odr_log::log::{Call, CallRec, Log, PathItem};
+use rv_model::logged::path_logged;
 use rv_model::walk::Transfer;
 
 /// Where a thread stands in its log.
@@ -40,16 +41,6 @@ pub struct Told<'a> {
     pub shown: Shown<'a>,
     pub items: usize,
     pub calls: usize,
-}
-
-/// The path that the log says of a thread, empty for one that it has not.
-pub fn path_logged(log: &Log, thread: usize) -> &[PathItem]
-    ensures { result.now ≡ (logged log.now thread).path }
-{
-    match log.threads.as_slice().get(thread) {
-        None => &[],
-        Some(logged) => logged.path.as_slice(),
-    }
 }
 
 /// The target that stands at a place of a path.

@@ -4,10 +4,11 @@ ghost use Rattle.std.specs.Prelude.{◌≡◌};
 ghost use Rattle.rv_model.specs.Walk.{may_misalign, may_fault};
 ghost use Rattle.trace_path.specs.Faults.{faults_at, fault_of};
 
-use crate::step::{instr_at, is_aligned};
+use crate::step::is_aligned;
 use crate::thread::Stop;
 use elf_image::image::Image;
 use odr_log::log::{Cause, End};
+use rv_model::code::instr_at;
 use rv_model::walk::{FaultPlace, Transfer, transfer_of};
 use rv32_decode::instr::Instr;
 

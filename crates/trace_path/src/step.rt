@@ -1,7 +1,6 @@
 //! One step of a thread along its log.
 
 ghost use Rattle.std.specs.Prelude.{◌≡◌, ◌+◌, option_map};
-ghost use Rattle.rv_model.specs.Step.{instr_at};
 ghost use Rattle.rv_model.specs.Thread.{word_after};
 ghost use Rattle.rv_model.specs.Instruction.{is_aligned};
 ghost use Rattle.rv_model.specs.Walk.{aligned, goes_to, is_last};
@@ -11,9 +10,9 @@ ghost use Rattle.trace_path.specs.Steps.{next, next_by, stand_at};
 
 use crate::cursor::{Cursor, Shown, next_told};
 use elf_image::image::Image;
-use odr_log::log::{Call, Cause, Log};
+use odr_log::log::{Call, Log};
+use rv_model::code::instr_at;
 use rv_model::walk::{Place, Transfer, transfer_of};
-use rv32_decode::decode;
 use rv32_decode::instr::Instr;
 
 /// A step: its place, what it shows, and where the thread then stands.
@@ -22,20 +21,6 @@ pub struct Advanced<'a> {
     pub place: Place,
     pub shown: Shown<'a>,
     pub cursor: Cursor,
-}
-
-/// The instruction at an address, or why there is none.
-#[tactic(auto, unfolding(rv_model::specs::Step::instr_at))]
-pub fn instr_at(image: &Image, pc: u32) -> Result<Instr, Cause>
-    ensures { result ≡ instr_at image.now pc }
-{
-    match image.fetch(pc) {
-        None => Err(Cause::FetchFault),
-        Some(word) => match decode(word) {
-            None => Err(Cause::Illegal),
-            Some(instr) => Ok(instr),
-        },
-    }
 }
 
 /// Whether an instruction may stand at an address: it is a multiple of four.

@@ -15,6 +15,7 @@ use elf_image::image::Image;
 use odr_list::list::List;
 use odr_list::memory::Memory;
 use odr_log::log::{Call, CallRec, Log};
+use rv_model::logged::steps_logged;
 use rv_model::walk::Place;
 use std::alloc::Global;
 
@@ -88,16 +89,6 @@ fn start_of(image: &Image, log: &Log, thread: usize) -> Option<u32>
         Some(image.entry())
     } else {
         spawned_at(log.calls.as_slice(), thread)
-    }
-}
-
-/// The number of steps that the log counts of a thread, 0 for one that it has not.
-fn steps_logged(log: &Log, thread: usize) -> u32
-    ensures { result ≡ (logged log.now thread).steps }
-{
-    match log.threads.as_slice().get(thread) {
-        None => 0,
-        Some(logged) => logged.steps,
     }
 }
 

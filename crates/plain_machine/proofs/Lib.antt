@@ -1,0 +1,4 @@
+pub mod Counts
+pub mod NewestLemmas
+pub mod ShortCalls
+pub mod Spans

@@ -1,6 +1,0 @@
-use Rattle.std.proofs.Common.{◌≡◌, ◌≤◌, length, take}
-use Rattle.rv_model.specs.Run.{path_of}
-use Rattle.rv_model.proofs.run.items_so_far.Given as goal
-
-abbrev pub invariant-loop-event : goal.invariant-loop-event
-invariant-loop-event l = (l.count ≡ length (path_of l.thread (take l.event-index l.events))) × (l.count ≤ l.event-index)

@@ -1,6 +1,0 @@
-use Rattle.std.proofs.Common.{◌≡◌, take}
-use Rattle.rv_model.specs.Run.{records_of}
-use Rattle.rv_model.proofs.run.records_of.Given as goal
-
-abbrev pub invariant-loop-event : goal.invariant-loop-event
-invariant-loop-event l = l.records ≡ records_of (take l.event-index l.events)
