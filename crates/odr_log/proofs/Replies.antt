@@ -1,5 +1,6 @@
 -- What the public readers answer, from what reading all bytes tells.
 use Rattle.std.proofs.Common.{◌≡◌, ℕ, ◌-◌, ◌<◌, ◌≤◌, List, [], length, Result, Ok, Err, refl, sym, ap, subst, ◌∙◌, arith, inl, inr}
+use Rattle.odr_limits.specs.declared.TheConstants.{MOST_STEPS}
 use Rattle.odr_log.specs.declared.log.Log.{Log}
 use Rattle.odr_log.specs.Grammar.{log_bytes, steps_of, IsInGrammar, IsValid, IsLog}
 use Rattle.odr_log.specs.declared.fault.LogFault.{LogFault}
@@ -53,7 +54,7 @@ not_both bytes log small valid spelled (inr more) =
     let equal : steps_of more.0 ≡ steps_of log = ap steps_of same in
     omega (arith, few, many, equal)
 
-pub log-answers : (bytes : List ℕ) (log : Log) → FitsFile bytes → IsBytes bytes → whole_at bytes ≡ Ok log → steps_of log ≤ 250000 → Answers bytes (Ok log)
+pub log-answers : (bytes : List ℕ) (log : Log) → FitsFile bytes → IsBytes bytes → whole_at bytes ≡ Ok log → steps_of log ≤ MOST_STEPS → Answers bytes (Ok log)
 log-answers bytes log small fits read few =
     let took = whole-takes bytes log fits read in
     let valid : IsValid log = record { grammar = took.0; steps = few } in
@@ -67,7 +68,7 @@ log-answers bytes log small fits read few =
       bad = λ offset. (λ e. absurd cc, λ h. absurd (first_bad-no_log bytes offset h.1 log took.0 took.1));
     }
 
-pub many-answers : (bytes : List ℕ) (log : Log) → FitsFile bytes → IsBytes bytes → whole_at bytes ≡ Ok log → 250000 < steps_of log → Answers bytes (Err fault.TooLarge)
+pub many-answers : (bytes : List ℕ) (log : Log) → FitsFile bytes → IsBytes bytes → whole_at bytes ≡ Ok log → MOST_STEPS < steps_of log → Answers bytes (Err fault.TooLarge)
 many-answers bytes log small fits read many =
     let took = whole-takes bytes log fits read in
     let large : IsTooLarge bytes = inr (log, took.0, took.1, many) in

@@ -1,5 +1,6 @@
 -- What is wrong with bytes that are no valid log, and where.
 use Rattle.std.specs.Prelude.{◌≡◌, ◌≢◌, ℕ, ◌+◌, ◌<◌, ◌≤◌, List, [], ◌++◌, length, take, Result, Ok, Err, ◌⊎◌}
+use Rattle.odr_limits.specs.declared.TheConstants.{MOST_LOG_BYTES, MOST_STEPS}
 use Rattle.odr_log.specs.declared.fault.LogFault.{LogFault}
 use Rattle.odr_log.specs.declared.fault.LogFault.TheVariants as fault
 use Rattle.odr_log.specs.declared.log.Log.{Log}
@@ -34,11 +35,11 @@ FirstBad bytes p = IsFirstWrong bytes p ⊎ IsCutOff bytes p
 
 -- as many bytes as a log file may have
 abbrev pub FitsFile : List ℕ → Type 0
-FitsFile bytes = length bytes ≤ 67108864
+FitsFile bytes = length bytes ≤ MOST_LOG_BYTES
 
 -- too many bytes, or a log of too many steps
 abbrev pub IsTooLarge : List ℕ → Type 0
-IsTooLarge bytes = (67108864 < length bytes) ⊎ ((log : Log) × IsInGrammar log × (bytes ≡ log_bytes log) × (250000 < steps_of log))
+IsTooLarge bytes = (MOST_LOG_BYTES < length bytes) ⊎ ((log : Log) × IsInGrammar log × (bytes ≡ log_bytes log) × (MOST_STEPS < steps_of log))
 
 -- memory ran out, or P
 abbrev pub UnlessMemory : {T : Type 0} → Result T LogFault → Type 0 → Type 0

@@ -5,6 +5,7 @@
 use Rattle.std.specs.Prelude.{◌≡◌, ℕ, ◌<◌, ◌≤◌, ◌^◌, Bool, true, false, List, [], ◌∷◌, ◌++◌, length, Option, Some, None, All, IfSome, codes}
 use Rattle.std.specs.List.{flat_map, sum_by}
 use Rattle.byteorder.specs.Endian.{little_bytes}
+use Rattle.odr_limits.specs.declared.TheConstants.{MOST_STEPS}
 use Rattle.odr_log.specs.declared.log.Cause.{Cause}
 use Rattle.odr_log.specs.declared.log.Cause.TheVariants as cause
 use Rattle.odr_log.specs.declared.log.End.{End}
@@ -164,7 +165,7 @@ steps_of log = sum_by (λ thread. thread.steps) log.threads
 -- a valid log: one of the grammar whose steps are within the limit
 pub record IsValid (log : Log) : Type 0 where
   pub grammar : IsInGrammar log
-  pub steps : steps_of log ≤ 250000
+  pub steps : steps_of log ≤ MOST_STEPS
 
 -- the bytes of a valid log
 abbrev pub IsLog : List ℕ → Log → Type 0

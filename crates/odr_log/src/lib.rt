@@ -7,7 +7,6 @@
 
 mod fault;
 mod laws;
-mod limits;
 pub mod log;
 mod read;
 mod reading;
@@ -19,7 +18,6 @@ mod write;
 
 pub use fault::LogFault;
 pub use laws::{one_first_bad, one_spelling};
-pub use limits::{MOST_BYTES, MOST_STEPS};
 pub use odr_list::memory::Memory;
 pub use read::read_log;
 pub use streams::{output, tape};

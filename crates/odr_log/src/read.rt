@@ -4,14 +4,14 @@ ghost use Rattle.odr_log.specs.Faults.{UnlessMemory, FitsFile, IsTooLarge, IsSom
 ghost use Rattle.odr_log.specs.declared.log.Log.{Log};
 
 use crate::fault::LogFault;
-use crate::limits::{MOST_BYTES, MOST_STEPS};
 use crate::log::Log;
 use crate::reading::whole_of;
 use crate::stop::Stop;
+use odr_limits::{MOST_LOG_BYTES, MOST_STEPS};
 use std::alloc::Global;
 
 /// The valid log that has these bytes. `Bad` tells at which offset they stop to be a log. `TooLarge` tells that
-/// there are more bytes than [`MOST_BYTES`], or that they are a log of more steps than [`MOST_STEPS`].
+/// there are more bytes than [`MOST_LOG_BYTES`], or that they are a log of more steps than [`MOST_STEPS`].
 pub fn read_log(alloc: Global, bytes: &[u8]) -> Result<Log, LogFault>
     ensures ok { UnlessMemory result ((log : Log) →
         (result ≡ Ok log) ↔ (FitsFile bytes.now × IsLog bytes.now log)) }
@@ -23,7 +23,7 @@ pub fn read_log(alloc: Global, bytes: &[u8]) -> Result<Log, LogFault>
     ensures bad { UnlessMemory result ((offset : ℕ) →
         (result ≡ Err (LogFault.Bad offset)) ↔ (FitsFile bytes.now × FirstBad bytes.now offset)) }
 {
-    if bytes.len() > MOST_BYTES {
+    if bytes.len() as u64 > MOST_LOG_BYTES {
         return Err(LogFault::TooLarge);
     }
     let log = match whole_of(alloc, bytes) {

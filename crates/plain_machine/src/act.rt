@@ -3,7 +3,7 @@ ghost use Rattle.elf_image.specs.Memory.{writes_of, bytes_of};
 ghost use Rattle.rv32_decode.specs.Valid.{IsValid};
 ghost use Rattle.rv_model.specs.Values.{store_size, load_size, extended};
 ghost use Rattle.plain_machine.specs.Short.{IsShort};
-ghost use Rattle.plain_machine.specs.Met.{HasCount, IsMet, IsAlone, IsAtomic, word_bytes};
+ghost use Rattle.plain_machine.specs.Met.{HasCount, IsMet, word_bytes};
 ghost use Rattle.rv_model.specs.Calls.{kind_at, record_of};
 ghost use Rattle.rv_model.specs.declared.hearing.Heard.{Heard};
 ghost use Rattle.rv_model.specs.Instruction.{IsAlone, IsAtomic, no_access, buffer_of, access_of, is_aligned, may_amo, word_in, computes, jumps, branches, loads, stores, atomically, call_writes, calls_out, act, act_at, access_at, asked_by, asked_at, conditional_of, conditional_at, wins, reserving, reserving_at};

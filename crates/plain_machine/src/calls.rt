@@ -1,4 +1,4 @@
-ghost use Rattle.std.specs.Prelude.{◌≡◌, ◌<◌, ◌≤◌, length, take, drop, slice_set, nat_eq, nat_lt, ◌%◌, ◌&&◌, IfOk, ◌^◌, if◌then◌else◌};
+ghost use Rattle.std.specs.Prelude.{◌≡◌, ◌<◌, ◌≤◌, length, take, drop, slice_index_or, slice_set, nat_eq, nat_lt, ◌%◌, ◌&&◌, IfOk, ◌^◌, if◌then◌else◌};
 ghost use Rattle.plain_machine.specs.Short.{IsShort};
 ghost use Rattle.rv_model.specs.Calls.{fits_buffer, writing, kind_at, asked_of, made, end_value, owner_of, is_thread, is_other, waits, reply_to, join_value, no_reply, says, calls_after, record_of, answer_of, zero_if};
 
@@ -152,8 +152,14 @@ pub fn end_value(calls: &Calls, thread: u32) -> Option<u32>
 fn owner_of(calls: &Calls, mutex: u32) -> Option<u8>
     ensures { result ≡ owner_of calls.now mutex }
 {
+    owner_in(&calls.owners, mutex)
+}
+
+fn owner_in(owners: &[Option<u8>; 32], mutex: u32) -> Option<u8>
+    ensures { result ≡ slice_index_or owners.now mutex None }
+{
     if mutex < 32 {
-        calls.owners[mutex as usize]
+        owners[mutex as usize]
     } else {
         None
     }

@@ -7,3 +7,4 @@ pub mod LeastPlace
 pub mod Genuine
 pub mod SpawnLemmas
 pub mod Acts
+pub mod CallRows

@@ -1,8 +1,9 @@
 -- The table of guest calls, a row for each: its arguments, when the caller waits in it, when it is misused, its record,
 -- a0 after it, and what else changes. `Calls.antt` cuts the same by what is asked, answered and changed; that a step does
 -- what the row says is a law.
-use Rattle.std.specs.Prelude.{ℕ, ◌+◌, ◌%◌, Bool, true, false, not, ◌&&◌, ◌||◌, List, [], ◌∷◌, ◌++◌, length, map, take, drop, nat_eq, nat_le, slice_set, Option, Some, None, unwrap_or, is_none, is_some, if◌then◌else◌}
+use Rattle.std.specs.Prelude.{◌≡◌, ℕ, ◌+◌, ◌%◌, Bool, true, false, not, ◌&&◌, ◌||◌, List, [], ◌∷◌, ◌++◌, length, map, take, drop, nat_eq, nat_lt, nat_le, slice_set, Option, Some, None, unwrap_or, is_none, is_some, if◌then◌else◌}
 use Rattle.elf_image.specs.declared.write.Write.{Write}
+use Rattle.elf_image.specs.Layout.{Layout}
 use Rattle.elf_image.specs.Memory.{writes_of}
 use Rattle.odr_log.specs.declared.log.Call.{Call}
 use Rattle.odr_log.specs.declared.log.Call.TheVariants as call
@@ -10,13 +11,14 @@ use Rattle.rv_model.specs.declared.state.Local.{Local}
 use Rattle.rv_model.specs.declared.state.Thread.{Thread}
 use Rattle.rv_model.specs.declared.state.Calls.{Calls}
 use Rattle.rv_model.specs.declared.state.Core.{Core}
+use Rattle.rv_model.specs.declared.state.State.{State}
 use Rattle.rv_model.specs.declared.state.Halt.{Halt}
 use Rattle.rv_model.specs.declared.state.Halt.TheVariants as halt
 use Rattle.rv_model.specs.declared.state.Note.TheVariants as note
 use Rattle.rv_model.specs.declared.hearing.Reach.{Reach}
 use Rattle.rv_model.specs.Thread.{register, with_register, onward, losing, fresh, spawned_local}
 use Rattle.rv_model.specs.Calls.{minus_one, made, end_value, owner_of, is_thread, is_other}
-use Rattle.rv_model.specs.Step.{Effect, thread_at}
+use Rattle.rv_model.specs.Step.{Effect, thread_at, memory_of, reach_at, after_effect, step, is_enabled}
 
 pub record Row : Type 0 where
   pub waits : Bool
@@ -134,3 +136,14 @@ called core thread row =
       writes = row.writes;
       note = note.Called row.made;
     }
+
+-- the row of the call that a thread of a state is at
+abbrev pub row_at : Layout → State → ℕ → Row
+row_at image state thread = row_of state.core.calls thread (thread_at state.core thread).local (reach_at image (memory_of image state) state.core thread)
+
+-- A thread at a call is enabled where it was made and has not ended, the machine has not halted, and its row doesn't
+-- wait; its step then is what the row says.
+pub record FollowsRow (image : Layout) (state : State) (thread : ℕ) : Type 0 where
+  pub ready : is_enabled image state thread
+      ≡ (nat_lt thread (length state.core.threads) && is_none (end_value state.core.calls thread) && is_none state.core.halt && not (row_at image state thread).waits)
+  pub acts : is_enabled image state thread ≡ true → step image state thread ≡ after_effect state (called state.core thread (row_at image state thread))

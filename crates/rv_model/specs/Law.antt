@@ -1,7 +1,8 @@
 -- Laws of the definitions, each the contract of a public function.
-use Rattle.std.specs.Prelude.{◌≡◌, ◌↔◌, ℕ, ◌+◌, ◌<◌, ◌≤◌, true, List, length, slice_get, Option, Some, None, is_some, Result}
+use Rattle.std.specs.Prelude.{◌≡◌, ◌↔◌, ℕ, ◌+◌, ◌<◌, ◌≤◌, true, List, length, slice_get, Option, Some, None, is_some, Result, Ok}
 use Rattle.elf_image.specs.Layout.{Layout}
 use Rattle.rv32_decode.specs.declared.instr.Instr.{Instr}
+use Rattle.rv32_decode.specs.declared.instr.Instr.TheVariants as instr
 use Rattle.odr_log.specs.declared.log.Cause.{Cause}
 use Rattle.odr_log.specs.declared.log.Call.TheVariants as call
 use Rattle.odr_log.specs.declared.log.CallRec.{CallRec}
@@ -13,9 +14,10 @@ use Rattle.rv_model.specs.declared.hearing.Heard.{Heard}
 use Rattle.rv_model.specs.Calls.{reply_to}
 use Rattle.rv_model.specs.CallsFit.{Pass}
 use Rattle.rv_model.specs.Instruction.{act_at, asked_at, reads_at}
-use Rattle.rv_model.specs.Step.{opening, instr_at, thread_at, step}
+use Rattle.rv_model.specs.Step.{opening, instr_at, next_instr, thread_at, step}
 use Rattle.rv_model.specs.Run.{Runs, final, events, log_of, HasLog, first_diff}
 use Rattle.rv_model.specs.FirstDifference.{IsFirstDifference}
+use Rattle.rv_model.specs.CallTable.{FollowsRow}
 use Rattle.rv_model.specs.Noted.{note_in, CallsBy, asked_noted, reply_noted, LeadsOn, over_bytes, hears_bytes}
 
 -- A schedule has a log exactly where it differs from it nowhere.
@@ -35,6 +37,10 @@ RecordedLogIsGenuine = (image : Layout) (tape : List ℕ) (schedule : List ℕ) 
 abbrev pub StepRetiresAtMostOne : Type 0
 StepRetiresAtMostOne = (image : Layout) (state : State) (thread other n : ℕ) → thread < length state.core.threads
     → ((u : ℕ) → (thread_at state.core u).retired ≤ n) → (thread_at (step image state thread).state.core other).retired ≤ n + 1
+
+-- A step that makes a guest call does what the row of that call says.
+abbrev pub CallsFollowTable : Type 0
+CallsFollowTable = (image : Layout) (state : State) (thread : ℕ) → next_instr image state.core thread ≡ Ok instr.Ecall → FollowsRow image state thread
 
 -- What a step asks of the calls' shared state is what its note asked; where the state replied, its note has that reply.
 pub record NotesTell (local : Local) (fetched : Result Instr Cause) (heard : Heard) : Type 0 where

@@ -1,6 +1,6 @@
 //! Laws of the definitions. Each function does nothing; its contract is the law.
 
-ghost use Rattle.rv_model.specs.Law.{NoDifferenceIsLog, FirstDifferenceIsLeast, RecordedLogIsGenuine, StepRetiresAtMostOne, NotesTellCalls, NotesLead, OnlyReadsUseBytes, SpawnsStandFirst};
+ghost use Rattle.rv_model.specs.Law.{NoDifferenceIsLog, FirstDifferenceIsLeast, RecordedLogIsGenuine, StepRetiresAtMostOne, CallsFollowTable, NotesTellCalls, NotesLead, OnlyReadsUseBytes, SpawnsStandFirst};
 
 /// There is no first difference exactly where the schedule has the log.
 pub fn no_difference_is_log()
@@ -21,6 +21,11 @@ pub fn recorded_log_is_genuine()
 /// A step retires at most one instruction.
 pub fn step_retires_at_most_one()
     ensures { StepRetiresAtMostOne }
+{}
+
+/// A guest call does what its row of the call table says, and waits where the row does.
+pub fn calls_follow_table()
+    ensures { CallsFollowTable }
 {}
 
 /// The note of a step tells what it asked of the state that calls share, and what it was replied.

@@ -1,4 +1,5 @@
 use Rattle.std.proofs.Common.{◌<◌, ◌≤◌, arith}
+use Rattle.odr_limits.specs.declared.TheConstants.{MOST_STEPS}
 use Rattle.odr_log.specs.Grammar.{steps_of}
 use Rattle.odr_log.specs.Faults.{FitsFile}
 use Rattle.odr_log.proofs.Readers.{IsBytes}
@@ -27,7 +28,7 @@ pub returns-then-steps-gt-MOST_STEPS : goal.returns-then-steps-gt-MOST_STEPS
 returns-then-steps-gt-MOST_STEPS c =
     let fits : IsBytes c.args.bytes.now = λ i. omega (arith, c.type_inv.bytes i) in
     let small : FitsFile c.args.bytes.now = omega arith in
-    let many : 250000 < steps_of c.in-Ok.log = omega (arith, c.steps.ensures) in
+    let many : MOST_STEPS < steps_of c.in-Ok.log = omega (arith, c.steps.ensures) in
     let a = many-answers c.args.bytes.now c.in-Ok.log small fits c.in-Ok.ensures many in
     record { ok = a.ok; too_large = a.too_large; no_log = a.no_log; bad = a.bad }
 
@@ -35,6 +36,6 @@ pub returns : goal.returns
 returns c =
     let fits : IsBytes c.args.bytes.now = λ i. omega (arith, c.type_inv.bytes i) in
     let small : FitsFile c.args.bytes.now = omega arith in
-    let few : steps_of c.in-Ok.log ≤ 250000 = omega (arith, c.steps.ensures) in
+    let few : steps_of c.in-Ok.log ≤ MOST_STEPS = omega (arith, c.steps.ensures) in
     let a = log-answers c.args.bytes.now c.in-Ok.log small fits c.in-Ok.ensures few in
     record { ok = a.ok; too_large = a.too_large; no_log = a.no_log; bad = a.bad }
