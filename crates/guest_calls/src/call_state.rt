@@ -21,7 +21,7 @@ use std::marker::Model;
 
 /// What the guest calls share: the value with which each thread ended, the owner of each mutex, and what is
 /// left of the input. Contracts see it as the model's `Calls`. No call takes memory.
-#[derive(Debug, Drop)]
+#[derive(Drop)]
 pub struct CallState {
     ended: EndValues,
     owners: [Option<u8>; 32],

@@ -9,7 +9,7 @@ use std::marker::Model;
 pub const MOST: usize = 8;
 
 /// For each thread that was made the value with which it ended; eight at most, kept in place.
-#[derive(Debug, Drop)]
+#[derive(Drop)]
 pub struct EndValues {
     values: SmallVec<Option<u32>, MOST>,
 }

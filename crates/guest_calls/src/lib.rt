@@ -11,7 +11,5 @@ pub mod law;
 pub mod note;
 pub mod piece;
 mod tape;
-#[cfg(test)]
-mod tests;
 
 pub use odr_list::memory::Memory;

@@ -3,7 +3,7 @@ ghost use Rattle.std.specs.Prelude.{◌≡◌, ◌≤◌, length, take, drop};
 use std::marker::Model;
 
 /// What is left of an input. It is kept whole, with the number of bytes that were read.
-#[derive(Debug, Drop)]
+#[derive(Drop)]
 pub struct Tape {
     bytes: Vec<u8>,
     position: usize,

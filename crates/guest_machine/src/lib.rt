@@ -10,8 +10,6 @@ mod memory_access;
 pub mod note;
 mod run;
 mod span;
-#[cfg(test)]
-mod tests;
 mod threads;
 pub mod wait;
 

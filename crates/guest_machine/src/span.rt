@@ -1,5 +1,4 @@
 ghost use Rattle.std.specs.Prelude.{◌≡◌, ℕ, map};
-ghost use Rattle.rv_model.specs.Values.{store_size};
 ghost use Rattle.rv32_decode.specs.Valid.{IsValid};
 ghost use Rattle.rv_model.specs.Instruction.{act};
 ghost use Rattle.rv_model.specs.declared.hearing.Heard.{Heard};
@@ -10,8 +9,8 @@ use crate::note::Note;
 use guest_calls::note::CallNote;
 use rv_model::hearing::Access;
 use rv_model::state::{Local, Thread};
-use rv_model::values::offset_by;
-use rv32_decode::instr::{Instr, StoreOp};
+use rv_model::values::{offset_by, store_size};
+use rv32_decode::instr::Instr;
 
 /// Whether one of the span's bytes is in the aligned word at an address.
 #[tactic(auto, using(crate::proofs::SpanLemmas::one_byte_more))]
@@ -54,17 +53,6 @@ fn nothing() -> Access
     Access {
         address: 0,
         count: 0,
-    }
-}
-
-/// The number of bytes that a store moves.
-fn store_size(op: StoreOp) -> u32
-    ensures { result ≡ store_size op }
-{
-    match op {
-        StoreOp::Sb => 1,
-        StoreOp::Sh => 2,
-        StoreOp::Sw => 4,
     }
 }
 

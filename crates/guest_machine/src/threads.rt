@@ -13,7 +13,7 @@ use std::marker::Model;
 pub const MOST: usize = 8;
 
 /// The threads that were made; eight at most, kept in place.
-#[derive(Debug, Drop)]
+#[derive(Drop)]
 pub struct Threads {
     threads: Vec<Thread>,
 }

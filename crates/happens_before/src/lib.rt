@@ -5,7 +5,5 @@ mod fit;
 pub mod order;
 mod shared;
 pub mod table;
-#[cfg(test)]
-mod tests;
 
 pub use odr_list::memory::Memory;

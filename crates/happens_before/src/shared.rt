@@ -14,7 +14,7 @@ use std::alloc::Global;
 
 /// What the guest calls share, without the tape: for each thread that was made whether it ended (with the value 0,
 /// since a log doesn't tell with which), the owner of each mutex, and whether a read has met the end of the tape.
-#[derive(Debug, Drop)]
+#[derive(Drop)]
 pub struct Shared {
     pub ended: List<Option<u32>>,
     pub owners: [Option<u8>; 32],

@@ -5,7 +5,7 @@ use crate::stepping::{image_of, is_same, machine_of, step_of, thread_of};
 use Effect::{Ends, Exits, Nothing, Owner, Spawns, Takes};
 use odr_log::log::Call;
 use odr_log::read_log;
-use rv_model::plain;
+use plain_machine::machine as plain;
 use rv_model::state::{Core, Halt, Local, Note, State, Thread};
 use std::alloc::Global;
 use std::process::Abort;

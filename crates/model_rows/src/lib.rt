@@ -6,7 +6,11 @@
 #[cfg(test)]
 mod calls;
 #[cfg(test)]
+mod calls_in_place;
+#[cfg(test)]
 mod files;
+#[cfg(test)]
+mod hello_in_place;
 #[cfg(test)]
 mod instructions;
 #[cfg(test)]

@@ -38,7 +38,7 @@ pub fn step_both(
     assert!(rt; machine.retired(thread) < 1000);
     let note = machine.step(thread);
     let stepped = step_of(rt, alloc, image, state, thread)?;
-    assert!(rt; is_same_note(&note, &stepped.note), "{note:?}, {stepped:?}");
+    assert!(rt; is_same_note(&note, &stepped.note), "{note:?}");
     Ok(stepped)
 }
 

@@ -4,7 +4,7 @@ use crate::files::{DATA, TEXT, file_of};
 use elf_image::image::Image;
 use odr_list::bytes::Bytes;
 use odr_list::list::List;
-use rv_model::plain;
+use plain_machine::machine as plain;
 use rv_model::state::{Calls, Core, Local, State, Stepped, Thread};
 use rv_model::writes::Writes;
 use std::alloc::Global;

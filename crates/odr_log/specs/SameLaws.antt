@@ -4,7 +4,7 @@ use Rattle.std.specs.Prelude.{◌==◌, ◌↔◌, if◌then◌else◌}
 use Rattle.std.specs.Cmp.{IsPartialEquivalence}
 use Rattle.std.specs.Cmp.Lexicographic.{pointwise, pointwise_decides, bytes_decides}
 use Rattle.std.specs.Str.{bytes_eq}
-use Rattle.std.proofs.lemmas.Bool.{eqb-true, eq-eqb, and_parts, and_from}
+use Rattle.std.proofs.lemmas.Bool.{eqb-true, eq-eqb, and_parts, and_from, false≢true}
 use Rattle.odr_log.specs.Grammar.{cause_code}
 use Rattle.odr_log.specs.Same.{same_flag, same_child, same_cause, same_end, same_item, same_thread, same_call, same_rec, same_log}
 use Rattle.odr_log.specs.declared.log.Cause.{Cause}
@@ -50,7 +50,7 @@ equal_bytes a b e = (bytes_decides a b).0 e
 
 equal_flag : (a b : Bool) → same_flag a b ≡ true → a ≡ b
 equal_flag true b e = sym e
-equal_flag false true e = cc
+equal_flag false true e = e
 equal_flag false false e = refl
 
 own_flag : (a : Bool) → same_flag a a ≡ true
@@ -60,7 +60,7 @@ own_flag false = refl
 equal_child : (a b : Option ℕ) → same_child a b ≡ true → a ≡ b
 equal_child None None e = refl
 equal_child (Some a) (Some b) e = ap Some (eqb-true a b e)
-equal_child a b e = cc
+equal_child a b e = absurd (false≢true e)
 
 own_child : (a : Option ℕ) → same_child a a ≡ true
 own_child None = refl
@@ -113,7 +113,7 @@ equal_end (end.Faulted tid cause) (end.Faulted tid' cause') e =
     cc
 equal_end end.AllDone end.AllDone e = refl
 equal_end end.Cut end.Cut e = refl
-equal_end a b e = cc
+equal_end a b e = absurd (false≢true e)
 
 own_end : (a : End) → same_end a a ≡ true
 own_end (end.Exited tid code) = and_from (tid == tid) (code == code) (own_number tid) (own_number code)
@@ -129,7 +129,7 @@ same_end-exact = exact same_end equal_end own_end
 equal_item : (a b : PathItem) → same_item a b ≡ true → a ≡ b
 equal_item (item.Branch taken) (item.Branch taken') e = ap item.Branch (equal_flag taken taken' e)
 equal_item (item.Jump target) (item.Jump target') e = ap item.Jump (eqb-true target target' e)
-equal_item a b e = cc
+equal_item a b e = absurd (false≢true e)
 
 own_item : (a : PathItem) → same_item a a ≡ true
 own_item (item.Branch taken) = own_flag taken
@@ -183,7 +183,7 @@ equal_call call.ReadBad call.ReadBad e = refl
 equal_call call.SelfId call.SelfId e = refl
 equal_call call.Yield call.Yield e = refl
 equal_call (call.Unknown number) (call.Unknown number') e = ap call.Unknown (eqb-true number number' e)
-equal_call a b e = cc
+equal_call a b e = absurd (false≢true e)
 
 own_call : (a : Call) → same_call a a ≡ true
 own_call (call.Exit code) = own_number code

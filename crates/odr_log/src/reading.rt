@@ -1,6 +1,6 @@
 //! Readers of the parts of a log. Each gives its part and the bytes after it.
 
-ghost use Rattle.std.specs.Prelude.{◌≡◌, ◌<◌, [], ◌∷◌, ◌++◌, length, codes};
+ghost use Rattle.std.specs.Prelude.{◌≡◌, ◌<◌, ◌==◌, [], ◌∷◌, ◌++◌, length, codes, if◌then◌else◌};
 ghost use Rattle.std.specs.Int.{w16, w32};
 ghost use Rattle.odr_log.specs.Reading.{Gives, byte_at, number_at, bytes_at, text_at, flag_at, list_at, item_at, thread_at, child_at, spawned_at, wanted_at, flagged_at, fields_at, record_at, cause_of as code_cause, cause_at, exited_at, faulted_at, end_at, mark_at, body_at, log_at, whole_at};
 
@@ -75,16 +75,19 @@ fn item_of(bytes: &[u8]) -> Result<(PathItem, &[u8]), Stop>
     Ok((PathItem::Branch(kind == 1), rest))
 }
 
-/// A child, which is none where it is 255.
 #[tactic(auto, unfolding(crate::specs::Reading::child_at))]
 fn child_of(bytes: &[u8]) -> Result<(Option<u8>, &[u8]), Stop>
     ensures { Gives (λ x. (x.0, x.1.now)) result (child_at bytes.now) }
 {
-    let (child, rest) = byte_of(bytes, 0, u8::MAX)?;
-    if child == u8::MAX {
-        return Ok((None, rest));
-    }
-    Ok((Some(child), rest))
+    let (byte, rest) = byte_of(bytes, 0, u8::MAX)?;
+    Ok((child_in(byte), rest))
+}
+
+/// A child, which is none where it is 255.
+fn child_in(byte: u8) -> Option<u8>
+    ensures { result ≡ (if byte == 255 then None else Some byte) }
+{
+    if byte == u8::MAX { None } else { Some(byte) }
 }
 
 /// An entry and a child.

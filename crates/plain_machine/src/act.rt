@@ -9,38 +9,16 @@ ghost use Rattle.rv_model.specs.declared.hearing.Heard.{Heard};
 ghost use Rattle.rv_model.specs.Instruction.{IsAlone, IsAtomic, no_access, buffer_of, access_of, is_aligned, may_amo, word_in, computes, jumps, branches, loads, stores, atomically, call_writes, calls_out, act, act_at, access_at, asked_by, asked_at, conditional_of, conditional_at, wins, reserving, reserving_at};
 
 use crate::calls;
-use rv_model::hearing::{Access, Asked, Heard, Outcome, Reach};
 use crate::memory::number_of;
-use rv_model::state::{Local, Note};
-use rv_model::values::{alu, amo, extend, imm_alu, offset_by, taken};
-use rv_model::writes::Writes;
 use elf_image::write::Write;
 use odr_list::memory::Memory;
 use odr_log::log::{Call, Cause};
+use rv_model::hearing::{Access, Asked, Heard, Outcome, Reach};
+use rv_model::state::{Local, Note};
+use rv_model::values::{alu, amo, extend, imm_alu, load_size, offset_by, store_size, taken};
+use rv_model::writes::Writes;
 use rv32_decode::instr::{Instr, LoadOp, StoreOp};
 use std::alloc::Global;
-
-/// The number of bytes that a load moves.
-fn load_size(op: LoadOp) -> u32
-    ensures { result ≡ load_size op }
-{
-    match op {
-        LoadOp::Lb | LoadOp::Lbu => 1,
-        LoadOp::Lh | LoadOp::Lhu => 2,
-        LoadOp::Lw => 4,
-    }
-}
-
-/// The number of bytes that a store moves.
-fn store_size(op: StoreOp) -> u32
-    ensures { result ≡ store_size op }
-{
-    match op {
-        StoreOp::Sb => 1,
-        StoreOp::Sh => 2,
-        StoreOp::Sw => 4,
-    }
-}
 
 fn no_access() -> Access
     ensures { result ≡ no_access }

@@ -2,12 +2,12 @@ ghost use Rattle.std.specs.Prelude.{◌≡◌, ◌<◌, ◌≤◌, length, take,
 ghost use Rattle.plain_machine.specs.Short.{IsShort};
 ghost use Rattle.rv_model.specs.Calls.{fits_buffer, writing, kind_at, asked_of, made, end_value, owner_of, is_thread, is_other, waits, reply_to, join_value, no_reply, says, calls_after, record_of, answer_of, zero_if};
 
-use rv_model::hearing::{Asked, Kind, Reach, Reply};
-use rv_model::state::{Calls, Local};
 use odr_list::bytes::Bytes;
 use odr_list::list::List;
 use odr_list::memory::Memory;
 use odr_log::log::Call;
+use rv_model::hearing::{Asked, Kind, Reach, Reply};
+use rv_model::state::{Calls, Local};
 use std::alloc::Global;
 
 /// The call that an ECALL makes, by its number and arguments and what its buffer meets.
@@ -192,7 +192,12 @@ pub fn join_value(calls: &Calls, asked: Option<Asked>) -> u32
 }
 
 /// What a thread is answered that does not wait.
-pub fn reply_to(alloc: Global, calls: &Calls, thread: u8, asked: Option<Asked>) -> Result<Reply, Memory>
+pub fn reply_to(
+    alloc: Global,
+    calls: &Calls,
+    thread: u8,
+    asked: Option<Asked>,
+) -> Result<Reply, Memory>
     ensures value { IfOk result (λ reply. reply ≡ reply_to calls.now thread asked) }
     ensures short { IfOk result (λ reply. length reply.bytes < 2 ^ 32) }
 {

@@ -10,16 +10,16 @@ ghost use Rattle.rv_model.specs.Step.{opening_core, opening, memory_of, instr_at
 
 use crate::act::{access_of, act, asked_by, conditional_of, reserving, wins};
 use crate::calls::{calls_after, end_value, join_value, reply_to, waits};
-use rv_model::code::instr_at;
-use rv_model::hearing::{Access, Asked, Heard, Outcome, Reach};
 use crate::memory::reach;
-use rv_model::state::{Calls, Core, Halt, Local, Note, State, Stepped, Thread};
-use rv_model::writes::Writes;
 use elf_image::image::Image;
 use odr_list::bytes::Bytes;
 use odr_list::list::List;
 use odr_list::memory::Memory;
 use odr_log::log::{Call, Cause};
+use rv_model::code::instr_at;
+use rv_model::hearing::{Access, Asked, Heard, Outcome, Reach};
+use rv_model::state::{Calls, Core, Halt, Local, Note, State, Stepped, Thread};
+use rv_model::writes::Writes;
 use rv32_decode::instr::Instr;
 use std::alloc::Global;
 

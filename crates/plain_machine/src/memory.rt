@@ -3,13 +3,13 @@ ghost use Rattle.elf_image.specs.Memory.{opening_cells, cells_after, next, is_re
 ghost use Rattle.rv_model.specs.Step.{reach_of};
 ghost use Rattle.plain_machine.specs.Met.{HasCount};
 
-use rv_model::hearing::{Access, Reach};
-use rv_model::writes::Writes;
 use elf_image::cell::Cell;
 use elf_image::image::Image;
 use elf_image::write::Write;
 use odr_list::bytes::Bytes;
 use odr_list::memory::Memory;
+use rv_model::hearing::{Access, Reach};
+use rv_model::writes::Writes;
 use std::alloc::Global;
 
 /// The byte at an address after these writes, with its rights; none outside all regions and stacks.

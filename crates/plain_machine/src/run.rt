@@ -6,14 +6,14 @@ ghost use Rattle.rv_model.specs.Step.{opening, is_enabled, step, thread_at};
 ghost use Rattle.rv_model.specs.Run.{event_of, Runs, final, events, item_of, path_of, record_in, is_call, records_of, thread_logs, end_of, log_of, logged, is_counted, option_test, fits, next_item, next_record, agrees, differs_from, first_diff};
 
 use crate::machine;
-use rv_model::logged::{is_counted, is_item_at, path_logged};
-use rv_model::state::{Core, Event, Halt, Note, State, Thread};
 use elf_image::image::Image;
 use odr_list::bytes::Bytes;
 use odr_list::list::List;
 use odr_list::memory::Memory;
 use odr_log::log::{Call, CallRec, End, Log, PathItem, ThreadLog};
 use odr_log::tape;
+use rv_model::logged::{is_counted, is_item_at, path_logged};
+use rv_model::state::{Core, Event, Halt, Note, State, Thread};
 use std::alloc::Global;
 
 /// A branch's or a JALR's item in the path of its thread.
@@ -289,7 +289,7 @@ fn retired(state: &State, thread: u8) -> u32
 }
 
 /// A step that the log has next: the state after it, and its event.
-#[derive(Debug, Drop)]
+#[derive(Drop)]
 struct Next {
     state: State,
     event: Event,

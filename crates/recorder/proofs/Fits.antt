@@ -5,6 +5,7 @@ use Rattle.std.proofs.Common.{arith, get_or}
 use Rattle.std.proofs.lemmas.List.{length-set, length-append}
 use Rattle.std.proofs.lemmas.List.Elements.{All-append, All-set, All-weaker, All-nil}
 use Rattle.std.proofs.lemmas.List.Sums.{sum_by-set, sum_by-append}
+use Rattle.odr_limits.specs.declared.TheConstants.{MOST_STEPS}
 use Rattle.odr_log.specs.declared.log.ThreadLog.{ThreadLog}
 use Rattle.odr_log.specs.declared.log.CallRec.{CallRec}
 use Rattle.odr_log.specs.Grammar.{IsItem, IsThread, IsCall, IsRecord, IsEnd, IsValid}
@@ -142,13 +143,13 @@ end_within n None false within = tt
 end_within n (Some (halt.Exited thread code)) all_ended within = within
 end_within n (Some (halt.Faulted thread fault)) all_ended within = within
 
-is_thread : (place : ℕ) → place ≤ 250000 → (log : ThreadLog) → FitsOne place log → IsThread log
+is_thread : (place : ℕ) → place ≤ MOST_STEPS → (log : ThreadLog) → FitsOne place log → IsThread log
 is_thread place most log fit = record { steps = omega (arith, fit.steps, most); items = omega (arith, fit.items, most); each = fit.each }
 
-is_record : (place count : ℕ) → place ≤ 250000 → (made : CallRec) → FitsRecord place count made → IsRecord count made
+is_record : (place count : ℕ) → place ≤ MOST_STEPS → (made : CallRec) → FitsRecord place count made → IsRecord count made
 is_record place count most made fit = record { tid = fit.tid; at = omega (arith, fit.at, most); call = fit.call }
 
-pub fits_valid : (place : ℕ) (logs : List ThreadLog) (calls : List CallRec) (o : Option Halt) (all_ended : Bool) → place ≤ 250000 → Fits place logs calls → HaltWithin (length logs) o
+pub fits_valid : (place : ℕ) (logs : List ThreadLog) (calls : List CallRec) (o : Option Halt) (all_ended : Bool) → place ≤ MOST_STEPS → Fits place logs calls → HaltWithin (length logs) o
     → IsValid (record { version = 1; threads = logs; calls = calls; end = end_by o all_ended })
 fits_valid place logs calls o all_ended most fit within = record {
   grammar = record {

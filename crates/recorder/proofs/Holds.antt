@@ -4,6 +4,7 @@ use Rattle.std.specs.List.{list_all}
 use Rattle.std.proofs.Common.{sym, ◌∙◌, ap, subst, arith, get_or}
 use Rattle.std.proofs.lemmas.List.{append_assoc, append-nil}
 use Rattle.elf_image.specs.Layout.{Layout}
+use Rattle.odr_limits.specs.declared.TheConstants.{MOST_STEPS}
 use Rattle.odr_log.specs.declared.log.ThreadLog.{ThreadLog}
 use Rattle.odr_log.specs.declared.log.CallRec.{CallRec}
 use Rattle.odr_log.specs.declared.log.Log.{Log}
@@ -178,7 +179,7 @@ pub record IsKept (image : Layout) (tape : List ℕ) (seed limit : ℕ) (log : L
   pub valid : IsValid log
 
 kept : (image : Layout) (tape : List ℕ) (seed limit place : ℕ) (machine : Whole) (generator : Lcg) (logs : List ThreadLog) (calls : List CallRec)
-    → (far : SoFar image tape seed limit place machine generator logs calls) → place ≤ 250000 → seeded_from image seed far.state place (limit - place) ≡ []
+    → (far : SoFar image tape seed limit place machine generator logs calls) → place ≤ MOST_STEPS → seeded_from image seed far.state place (limit - place) ≡ []
     → IsKept image tape seed limit (record { version = 1; threads = logs; calls = calls; end = end_of machine.core })
 unfolding log_of
 kept image tape seed limit place machine generator logs calls far most stops =
@@ -203,7 +204,7 @@ kept image tape seed limit place machine generator logs calls far most stops =
 
 -- at the limit
 pub kept_at_limit : (image : Layout) (tape : List ℕ) (seed limit place : ℕ) (machine : Whole) (generator : Lcg) (logs : List ThreadLog) (calls : List CallRec)
-    → SoFar image tape seed limit place machine generator logs calls → place ≤ 250000 → limit ≤ place
+    → SoFar image tape seed limit place machine generator logs calls → place ≤ MOST_STEPS → limit ≤ place
     → IsKept image tape seed limit (record { version = 1; threads = logs; calls = calls; end = end_of machine.core })
 kept_at_limit image tape seed limit place machine generator logs calls far most done =
     let e : limit - place ≡ 0 = omega arith in
@@ -211,7 +212,7 @@ kept_at_limit image tape seed limit place machine generator logs calls far most 
 
 -- where no thread may step
 pub kept_at_stop : (image : Layout) (tape : List ℕ) (seed limit place : ℕ) (machine : Whole) (generator : Lcg) (logs : List ThreadLog) (calls : List CallRec)
-    → SoFar image tape seed limit place machine generator logs calls → place ≤ 250000
+    → SoFar image tape seed limit place machine generator logs calls → place ≤ MOST_STEPS
     → ((state : State) → StandsFor machine state → generator ≡ generator_after place (generator_of seed) → chosen machine.image seed state place ≡ None)
     → IsKept image tape seed limit (record { version = 1; threads = logs; calls = calls; end = end_of machine.core })
 kept_at_stop image tape seed limit place machine generator logs calls far most picks =
@@ -221,7 +222,7 @@ kept_at_stop image tape seed limit place machine generator logs calls far most p
 
 -- what the code asks of the machine on the way
 pub has_room : (image : Layout) (tape : List ℕ) (seed limit place : ℕ) (machine : Whole) (generator : Lcg) (logs : List ThreadLog) (calls : List CallRec)
-    → SoFar image tape seed limit place machine generator logs calls → place ≤ 250000 → (u : ℕ) → u < length machine.core.threads → (thread_at machine.core u).retired + 1 < 2 ^ 32
+    → SoFar image tape seed limit place machine generator logs calls → place ≤ MOST_STEPS → (u : ℕ) → u < length machine.core.threads → (thread_at machine.core u).retired + 1 < 2 ^ 32
 has_room image tape seed limit place machine generator logs calls far most u within =
     let cores : machine.core ≡ far.state.core = far.holds.stands.core in
     let there : u < length far.state.core.threads = subst (λ (core : Core). u < length core.threads) cores within in

@@ -14,7 +14,7 @@ use odr_log::log::{CallRec, End, Log, PathItem, ThreadLog};
 use std::alloc::Global;
 
 /// What the threads did so far, and their calls in order.
-#[derive(Debug, Drop)]
+#[derive(Drop)]
 pub struct LogSoFar {
     pub threads: Vec<ThreadLog>,
     pub calls: List<CallRec>,

@@ -1,6 +1,7 @@
 //! The seeded run, recorded.
 
 ghost use Rattle.std.specs.Prelude.{◌≡◌, ◌+◌, ◌%◌, ◌^◌, ◌<◌, ◌≤◌, ℕ, length, true, slice_get, IfOk, IfSome, OnSome, IfNone};
+ghost use Rattle.odr_limits.specs.declared.TheConstants.{MOST_STEPS};
 ghost use Rattle.odr_log.specs.Grammar.{IsValid};
 ghost use Rattle.odr_log.specs.Tape.{output_of};
 ghost use Rattle.rv_model.specs.declared.state.State.{State};
@@ -80,7 +81,7 @@ fn seeded_log(
     seed: u64,
     limit: u32,
 ) -> Result<Log, Memory>
-    requires { limit ≤ 250000 }
+    requires { limit ≤ MOST_STEPS }
     ensures log { IfOk result (λ log. log ≡ log_of_run image.now tape.items (seeded image.now tape.items seed limit)) }
     ensures valid { IfOk result IsValid }
 {
@@ -110,7 +111,7 @@ pub fn record_run(
     seed: u64,
     limit: u32,
 ) -> Result<Recorded, Memory>
-    requires { limit ≤ 250000 }
+    requires { limit ≤ MOST_STEPS }
     ensures log { IfOk result (λ run. run.log ≡ log_of_run image.now tape.items (seeded image.now tape.items seed limit)) }
     ensures output { IfOk result (λ run. run.output ≡ output_of run.log) }
     ensures valid { IfOk result (λ run. IsValid run.log) }

@@ -4,6 +4,7 @@ use Rattle.std.proofs.Common.{sym, ◌∙◌, ap, subst, arith, get_or}
 use Rattle.std.proofs.lemmas.Bool.{and_parts}
 use Rattle.std.proofs.lemmas.List.{drop_all}
 use Rattle.elf_image.specs.Layout.{Layout}
+use Rattle.odr_limits.specs.declared.TheConstants.{MOST_STEPS}
 use Rattle.odr_log.specs.declared.log.Log.{Log}
 use Rattle.odr_log.specs.Grammar.{IsValid}
 use Rattle.odr_log.specs.Tape.{tape_of}
@@ -33,7 +34,7 @@ pub record Along (image : Layout) (log : Log) (schedule : List ℕ) (place : ℕ
   pub image_is : machine.image ≡ image
   pub stands : StandsFor machine state
   pub met_is : HasMet log happened met
-  pub few : AtMost 250000 state.core
+  pub few : AtMost MOST_STEPS state.core
   pub so_far : SoFar image log schedule place state happened
 
 -- one step
@@ -121,7 +122,7 @@ along_on image log schedule place t old now met then next valid along within is 
       image_is = more.image_is;
       stands = more.stands;
       met_is = more.met_is;
-      few = agreed_kept image log along.state along.happened t 250000 valid.steps there along.few (and_parts _ _ fit).1;
+      few = agreed_kept image log along.state along.happened t MOST_STEPS valid.steps there along.few (and_parts _ _ fit).1;
       so_far = one_further image log schedule place t along.state along.happened along.so_far within is fit there;
     }
 

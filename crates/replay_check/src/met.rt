@@ -14,7 +14,7 @@ use odr_log::log::{End, Log, PathItem};
 use rv_model::logged::{is_counted, is_item_at, path_logged};
 
 /// How much of a log has been met: the number of items of each thread's path, and of calls.
-#[derive(Clone, Copy, Debug)]
+#[derive(Clone, Copy)]
 pub struct Met {
     pub items: [usize; 8],
     pub calls: usize,

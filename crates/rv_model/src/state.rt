@@ -22,7 +22,7 @@ pub struct Thread {
 
 /// What the guest calls share: for each thread that was made the value with which it ended, the owner of
 /// each mutex, and what is left of the input.
-#[derive(Debug, Drop)]
+#[derive(Drop)]
 pub struct Calls {
     pub ended: List<Option<u32>>,
     pub owners: [Option<u8>; 32],
@@ -39,7 +39,7 @@ pub enum Halt {
 }
 
 /// The machine without its memory.
-#[derive(Debug, Drop)]
+#[derive(Drop)]
 pub struct Core {
     pub threads: List<Thread>,
     pub calls: Calls,
@@ -47,7 +47,7 @@ pub struct Core {
 }
 
 /// The whole machine: its memory is the image's with these writes.
-#[derive(Debug, Drop)]
+#[derive(Drop)]
 pub struct State {
     pub core: Core,
     pub writes: Writes,
@@ -68,7 +68,7 @@ pub enum Note {
 }
 
 /// A step of a run: its thread, the number of instructions that the thread retired before it, its note.
-#[derive(Debug, Drop)]
+#[derive(Drop)]
 pub struct Event {
     pub thread: u8,
     pub at: u32,
@@ -76,7 +76,7 @@ pub struct Event {
 }
 
 /// A step: the state after it, and its note.
-#[derive(Debug, Drop)]
+#[derive(Drop)]
 pub struct Stepped {
     pub state: State,
     pub note: Note,

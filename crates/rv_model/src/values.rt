@@ -1,7 +1,7 @@
 ghost use Rattle.std.specs.Prelude.{◌≡◌, ◌*◌, ◌≤◌, ◌^◌, ◌<◌, pos, ◌*ℤ◌, unsigned_abs, int_lt, if◌then◌else◌};
-ghost use Rattle.rv_model.specs.Values.{alu_of, imm_of, operation_of, taken_of, amo_of, load_size, extended, plus_offset, to_signed, high_of};
+ghost use Rattle.rv_model.specs.Values.{alu_of, imm_of, operation_of, taken_of, amo_of, load_size, store_size, extended, plus_offset, to_signed, high_of};
 
-use rv32_decode::instr::{AluOp, AmoOp, BranchOp, ImmOp, LoadOp};
+use rv32_decode::instr::{AluOp, AmoOp, BranchOp, ImmOp, LoadOp, StoreOp};
 
 /// A word and a signed offset, modulo 2^32.
 #[tactic(auto, unfolding(crate::specs::Values::plus_offset))]
@@ -190,5 +190,27 @@ pub fn extend(op: LoadOp, value: u32) -> u32
         LoadOp::Lb if value >= 0x80 => value + 0xffff_ff00,
         LoadOp::Lh if value >= 0x8000 => value + 0xffff_0000,
         LoadOp::Lb | LoadOp::Lh | LoadOp::Lw | LoadOp::Lbu | LoadOp::Lhu => value,
+    }
+}
+
+/// The number of bytes that a load moves.
+pub fn load_size(op: LoadOp) -> u32
+    ensures { result ≡ load_size op }
+{
+    match op {
+        LoadOp::Lb | LoadOp::Lbu => 1,
+        LoadOp::Lh | LoadOp::Lhu => 2,
+        LoadOp::Lw => 4,
+    }
+}
+
+/// The number of bytes that a store moves.
+pub fn store_size(op: StoreOp) -> u32
+    ensures { result ≡ store_size op }
+{
+    match op {
+        StoreOp::Sb => 1,
+        StoreOp::Sh => 2,
+        StoreOp::Sw => 4,
     }
 }

@@ -8,7 +8,7 @@ use std::alloc::Global;
 use std::marker::Model;
 
 /// All writes so far, seen by contracts as their list, the newest first.
-#[derive(Debug, Drop)]
+#[derive(Drop)]
 pub struct Writes {
     oldest_first: Vec<Write>,
 }

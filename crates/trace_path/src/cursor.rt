@@ -11,7 +11,7 @@ use rv_model::logged::path_logged;
 use rv_model::walk::Transfer;
 
 /// Where a thread stands in its log.
-#[derive(Clone, Copy, Debug)]
+#[derive(Clone, Copy)]
 pub struct Cursor {
     /// The address of the next instruction.
     pub pc: u32,
@@ -24,7 +24,7 @@ pub struct Cursor {
 }
 
 /// What a step shows of itself; a call as the log has it.
-#[derive(Clone, Copy, Debug)]
+#[derive(Clone, Copy)]
 pub enum Shown<'a> {
     Nothing,
     /// The outcome of a branch.
@@ -36,7 +36,7 @@ pub enum Shown<'a> {
 }
 
 /// What the log tells of a step, and how much of the log is then behind the thread.
-#[derive(Clone, Copy, Debug)]
+#[derive(Clone, Copy)]
 pub struct Told<'a> {
     pub shown: Shown<'a>,
     pub items: usize,

@@ -13,6 +13,3 @@ mod traces;
 pub use law::one_walk;
 pub use odr_list::memory::Memory;
 pub use traces::Traces;
-
-#[cfg(test)]
-mod tests;

@@ -16,7 +16,7 @@ use rv_model::walk::{Place, Transfer, transfer_of};
 use rv32_decode::instr::Instr;
 
 /// A step: its place, what it shows, and where the thread then stands.
-#[derive(Clone, Copy, Debug)]
+#[derive(Clone, Copy)]
 pub struct Advanced<'a> {
     pub place: Place,
     pub shown: Shown<'a>,

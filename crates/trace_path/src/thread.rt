@@ -20,14 +20,14 @@ use rv_model::walk::Place;
 use std::alloc::Global;
 
 /// Where a thread's walk stops: the address after its last step, and whether that was an exit or its end.
-#[derive(Clone, Copy, Debug)]
+#[derive(Clone, Copy)]
 pub struct Stop {
     pub pc: u32,
     pub over: bool,
 }
 
 /// A thread's walk: its places, the number of accesses among them, and where it stops.
-#[derive(Debug, Drop)]
+#[derive(Drop)]
 pub struct Followed {
     pub places: List<Place>,
     pub accesses: u64,
@@ -35,7 +35,7 @@ pub struct Followed {
 }
 
 /// The first steps of a thread.
-#[derive(Debug, Drop)]
+#[derive(Drop)]
 struct Front {
     places: List<Place>,
     accesses: u64,

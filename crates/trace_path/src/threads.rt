@@ -12,7 +12,7 @@ use rv_model::walk::Place;
 use std::alloc::Global;
 
 /// The walks of threads: the places of each, where each stops, and the number of accesses in all.
-#[derive(Debug, Drop)]
+#[derive(Drop)]
 pub struct Gathered {
     pub places: List<List<Place>>,
     pub stops: List<Stop>,

@@ -3,7 +3,7 @@ use Rattle.rv_model.specs.Step.{reach_of}
 use Rattle.guest_mem.specs.Blocks.{cells_of}
 use Rattle.guest_calls.specs.Table.{buffer_in}
 use Rattle.guest_calls.specs.declared.call.CallArgs.{CallArgs}
-use Rattle.guest_calls.proofs.tests.call.Goals as goal
+use Rattle.model_rows.proofs.calls_in_place.call.Goals as goal
 
 pub apply-requires-clause-unblocked : goal.apply-requires-clause-unblocked
 apply-requires-clause-unblocked c =
