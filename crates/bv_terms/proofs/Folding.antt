@@ -12,11 +12,15 @@ use Rattle.bv_terms.specs.Values.{Assignment, node_value, node_width, term_at, v
 use Rattle.bv_terms.specs.Variables.{IsTermOf, Occurs, OccursOnlyBy}
 use Rattle.bv_terms.proofs.Bounds.{node_sound, term_sound, zeros}
 
+-- the value of a node fits its width
+pub bits_of_node : (w : Assignment) (nodes : List Shape) (node : Shape) → AreFitting nodes → IsFitting (width_at nodes) (length nodes) node → IsBits (node_width (width_at nodes) node) (node_value w (term_at w nodes) node)
+bits_of_node w nodes node fitting fits = node_sound w (width_at nodes) (value_at w nodes) (length nodes) node fits (λ c below. term_sound w nodes fitting c below)
+
 -- a folded node's value fits its width
 pub folded_bits : (nodes : List Shape) (node : Shape) (width value : ℕ) → AreFitting nodes → IsFitting (width_at nodes) (length nodes) node
     → width ≡ node_width (width_at nodes) node → ((w : Assignment) → node_value w (term_at w nodes) node ≡ value) → IsBits width value
 folded_bits nodes node width value fitting fits is values =
-    let sound = node_sound zeros (width_at nodes) (value_at zeros nodes) (length nodes) node fits (λ c below. term_sound zeros nodes fitting c below) in
+    let sound = bits_of_node zeros nodes node fitting fits in
     subst (λ n. IsBits n value) (sym is) (subst (λ v. IsBits (node_width (width_at nodes) node) v) (values zeros) sound)
 
 pub fits_folded : (nodes : List Shape) (node kept : Shape) → FoldsTo nodes node kept → IsFitting (width_at nodes) (length nodes) node → IsFitting (width_at nodes) (length nodes) kept

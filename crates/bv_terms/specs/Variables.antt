@@ -20,3 +20,7 @@ pub record IsTermOf (old new : List Shape) (node : Shape) (id : ℕ) : Type 0 wh
   pub width : width_at new id ≡ node_width (width_at old) node
   pub value : (w : Assignment) → value_at w new id ≡ node_value w (term_at w old) node
   pub occurs : OccursOnlyBy old new id node
+
+-- no variable occurs in a term that was there but those that occurred in it
+abbrev pub KeepsVariables : List Shape → List Shape → Type 0
+KeepsVariables old new = (width number id : ℕ) → id < length old → Occurs new width number id → Occurs old width number id

@@ -8,7 +8,7 @@ ghost use Rattle.bv_terms.specs.Folded.{FoldsTo, is_folded};
 ghost use Rattle.bv_terms.specs.Shapes.{shape_of};
 ghost use Rattle.bv_terms.specs.Shared.{GainsAtMost, IsShared};
 ghost use Rattle.bv_terms.specs.Values.{Assignment, KeepsTerms, node_value, node_width, term_at, value_at, width_at};
-ghost use Rattle.bv_terms.specs.Variables.{IsTermOf};
+ghost use Rattle.bv_terms.specs.Variables.{IsTermOf, KeepsVariables};
 
 use crate::bits::Bits;
 use crate::node::{BinOp, Node, TermId};
@@ -63,6 +63,7 @@ impl<'a> TermPool<'a> {
         ensures shared { IfOk result (λ id. IsShared self.old self.new id.number) }
         ensures gains { IfOk result (λ id. GainsAtMost self.old self.new id.number) }
         ensures older { KeepsTerms self.old self.new }
+        ensures variables { KeepsVariables self.old self.new }
         ensures err { OnErr result (self.new ≡ self.old) }
     {
         let kept = self.folded(node);
@@ -77,6 +78,7 @@ impl<'a> TermPool<'a> {
         ensures shared { IfOk result (λ id. IsShared self.old self.new id.number) }
         ensures gains { IfOk result (λ id. GainsAtMost self.old self.new id.number) }
         ensures older { KeepsTerms self.old self.new }
+        ensures variables { KeepsVariables self.old self.new }
         ensures err { OnErr result (self.new ≡ self.old) }
     {
         let width = self.node_width(node);
@@ -233,8 +235,19 @@ impl<'a> TermPool<'a> {
         }
     }
 
+    /// The width of a term with this node, in bits. Takes no memory.
+    pub fn node_width(&self, node: Node<'a>) -> u8
+        requires { IsFitting (width_at self.now) (length self.now) (shape_of node) }
+        ensures width { result ≡ node_width (width_at self.now) (shape_of node.entry) }
+        ensures within { IsWidth result }
+        ensures below { (w : Assignment) → node_value w (term_at w self.now) (shape_of node.entry) < 2 ^ result }
+    {
+        let _terms = &self.terms;
+        self.width_from(node)
+    }
+
     // The width of a node that fits this pool.
-    fn node_width(&self, node: Node<'a>) -> u8
+    fn width_from(&self, node: Node<'a>) -> u8
         requires { IsFitting (width_at self.now) (length self.now) (shape_of node) }
         ensures { result ≡ node_width (width_at self.now) (shape_of node.entry) }
     {
