@@ -1,15 +1,14 @@
 -- A node in whose place a constant stands.
-use Rattle.std.proofs.Common.{◌≡◌, ℕ, ◌<◌, ◌^◌, List, [], Some, length, slice_get, refl, sym, ◌∙◌, subst, inl, inr, arith}
-use Rattle.std.specs.Prelude.{Contains, IfSome, IsSome, is_some, true, false, Bool}
-use Rattle.std.proofs.lemmas.Nat.{pow_pos}
+use Rattle.std.proofs.Common.{◌≡◌, ℕ, List, Some, length, slice_get, refl, sym, ◌∙◌, subst, inl, inr, arith}
+use Rattle.std.specs.Prelude.{true, false}
 use Rattle.std.proofs.lemmas.Bool.{false≢true}
-use Rattle.bv_terms.specs.Constants.{is_constant_at, constant_at}
+use Rattle.bv_terms.specs.Constants.{is_constant_at}
 use Rattle.bv_terms.specs.Fitting.{IsBits, IsFitting}
 use Rattle.bv_terms.specs.Folded.{FoldsTo, Itself, Constant, is_folded}
 use Rattle.bv_terms.specs.Placed.{AreFitting}
-use Rattle.bv_terms.specs.Shapes.{Shape, Const, Var, children}
+use Rattle.bv_terms.specs.Shapes.{Shape, Const, Var}
 use Rattle.bv_terms.specs.Values.{Assignment, node_value, node_width, term_at, value_at, width_at}
-use Rattle.bv_terms.specs.Variables.{IsTermOf, Occurs, OccursOnlyBy}
+use Rattle.bv_terms.specs.Variables.{IsTermOf, OccursOnlyBy}
 use Rattle.bv_terms.proofs.Bounds.{node_sound, term_sound, zeros}
 
 -- the value of a node fits its width

@@ -1,5 +1,5 @@
 -- Nodes in whose place a constant stands.
-use Rattle.std.specs.Prelude.{◌≡◌, ◌<◌, ◌^◌, ℕ, Bool, true, false, ◌&&◌, not, nat_eq, List, length}
+use Rattle.std.specs.Prelude.{◌≡◌, ℕ, Bool, true, false, ◌&&◌, not, nat_eq, List, length}
 use Rattle.std.specs.List.{list_all}
 use Rattle.bv_terms.specs.Constants.{is_constant_at}
 use Rattle.bv_terms.specs.Fitting.{IsBits}

@@ -163,6 +163,14 @@ fn other_nodes_on_constants_are_constants(rt: HostRuntime) -> Result<(), Fail> {
         index: of,
     })?;
     assert_eq!(rt; pool.constant(entry), Some(8));
+    Ok(())
+}
+
+#[test]
+fn a_node_on_a_variable_is_kept(rt: HostRuntime) -> Result<(), Fail> {
+    let arena = Bump::new(rt.alloc());
+    let mut pool = TermPool::new(rt.alloc(), &arena);
+    let zero = byte(&mut pool, 0)?;
     let variable = pool.add(Node::Var {
         width: 8,
         number: 0,
@@ -170,7 +178,7 @@ fn other_nodes_on_constants_are_constants(rt: HostRuntime) -> Result<(), Fail> {
     let sum = Node::Bin {
         op: BinOp::Add,
         left: variable,
-        right: of,
+        right: zero,
     };
     let kept = pool.add(sum)?;
     assert_eq!(rt; pool.node(kept), sum);

@@ -1,4 +1,4 @@
-use Rattle.std.proofs.Common.{◌<◌, ◌≤◌, ◌+◌, ◌*◌, ◌^◌, Fits, w64, arith, subst, sym}
+use Rattle.std.proofs.Common.{◌≤◌, ◌+◌, ◌*◌, ◌^◌, Fits, w64, arith, subst, sym}
 use Rattle.std.proofs.Math.Pow.{pow_mono}
 use Rattle.bv_terms.specs.BitVectors.{bits}
 use Rattle.bv_terms.proofs.Bounds.{concat_below}

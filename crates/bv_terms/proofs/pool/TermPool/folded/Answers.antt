@@ -1,9 +1,7 @@
-use Rattle.std.proofs.Common.{◌≡◌, List, length, subst, sym, ◌∙◌}
-use Rattle.bv_terms.specs.Fitting.{IsBits, IsFitting}
+use Rattle.std.proofs.Common.{subst, sym, ◌∙◌}
 use Rattle.bv_terms.specs.Folded.{Itself, Constant}
-use Rattle.bv_terms.specs.Placed.{AreFitting, shapes_of}
-use Rattle.bv_terms.specs.Shapes.{Shape, shape_of}
-use Rattle.bv_terms.specs.Values.{Assignment, node_value, node_width, term_at, width_at}
+use Rattle.bv_terms.specs.Placed.{AreFitting}
+use Rattle.bv_terms.specs.Shapes.{shape_of}
 use Rattle.bv_terms.proofs.Folding.{folded_bits}
 use Rattle.bv_terms.proofs.pool.TermPool.folded.Goals as goal
 
