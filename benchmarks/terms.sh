@@ -109,7 +109,7 @@ abbrev pub invariant-loop-$index : goal.invariant-loop-$index
 invariant-loop-$index l = record {
   older : KeepsTerms l.fn.pool l.pool;
   inside : l.sum.number < length l.pool;
-  width : width_at l.pool l.sum.number ≡ width_at l.fn.pool l.term.number;
+  width : width_at l.pool l.sum.number ≡ width_at l.fn.pool l.fn.term.number;
 }
 PROOF
 done

@@ -1,14 +1,14 @@
 -- What stands in a node's place by a right swap.
-use Rattle.std.proofs.Common.{◌≡◌, ℕ, ◌<◌, ◌^◌, true, List, Some, length, refl, sym, ◌∙◌, ap, subst, inl, inr, nat_eq, arith}
-use Rattle.std.specs.Prelude.{◌⊎◌, Option, IfSome, Contains, slice_get}
-use Rattle.std.proofs.lemmas.Option.{IfSome_then, slice_get_within}
+use Rattle.std.proofs.Common.{◌≡◌, ℕ, ◌<◌, ◌^◌, true, List, length, refl, sym, ◌∙◌, ap, subst, inl, inr, nat_eq, arith}
+use Rattle.std.specs.Prelude.{Option, IfSome}
+use Rattle.std.proofs.lemmas.Option.{IfSome_then}
 use Rattle.std.proofs.lemmas.Bool.{eqb-true}
 use Rattle.std.proofs.lemmas.Nat.{pow_pos}
 use Rattle.bv_terms.specs.declared.node.BinOp.{BinOp}
 use Rattle.bv_terms.specs.declared.node.BinOp.TheVariants as op
 use Rattle.bv_terms.specs.BitVectors.{bin_value, bin_width}
-use Rattle.bv_terms.specs.Fitting.{AreOperands, IsFitting}
-use Rattle.bv_terms.specs.Shapes.{Shape, Const, Var, Bin, children}
+use Rattle.bv_terms.specs.Fitting.{AreOperands}
+use Rattle.bv_terms.specs.Shapes.{Shape, Const, Var, Bin}
 use Rattle.bv_terms.specs.Values.{Assignment, term_at, value_at, width_at}
 use Rattle.bv_terms.specs.Variables.{IsTermOf, OccursOnlyBy}
 use Rattle.bv_rewrite.specs.declared.view.Swap.{Swap}

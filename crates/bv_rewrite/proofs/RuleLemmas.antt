@@ -1,18 +1,17 @@
 -- The rules keep the law.
-use Rattle.std.proofs.Common.{◌≡◌, ℕ, zero, suc, ◌+◌, ◌-◌, ◌*◌, ◌/◌, ◌%◌, ◌^◌, ◌<◌, ◌≤◌, Bool, true, false, cond, not, ◌&&◌, ◌||◌, nat_lt, nat_eq, Some, refl, sym, ◌∙◌, ap, subst, inl, inr, arith, zero-add, bit_and, bit_or}
-use Rattle.std.specs.Prelude.{◌⊎◌, Option, IfSome, bit_xor}
+use Rattle.std.proofs.Common.{◌≡◌, ℕ, zero, suc, ◌+◌, ◌-◌, ◌*◌, ◌/◌, ◌%◌, ◌^◌, ◌<◌, Bool, true, false, cond, not, ◌&&◌, ◌||◌, nat_lt, nat_eq, Some, refl, sym, ◌∙◌, ap, subst, inl, inr, arith, zero-add, bit_and}
+use Rattle.std.specs.Prelude.{◌⊎◌, Option, IfSome}
 use Rattle.std.specs.Int.Bits.{and_self, and_zero_l, and_zero_r, or_self, or_zero_l, or_zero_r, xor_self, xor_zero_l, xor_zero_r}
-use Rattle.std.proofs.Math.Nat.{mod-eq_of_lt, mod_self, mul_comm}
+use Rattle.std.proofs.Math.Nat.{mod-eq_of_lt, mod_self}
 use Rattle.std.proofs.lemmas.Nat.{and_comm, and_mask}
 use Rattle.std.proofs.lemmas.Bool.Decides.{nat_tests}
 use Rattle.bv_terms.specs.declared.node.BinOp.{BinOp}
 use Rattle.bv_terms.specs.declared.node.BinOp.TheVariants as op
-use Rattle.bv_terms.specs.BitVectors.{bin_value, bin_width, bit_of, bits, is_negative, is_signed_less, lshr_if, shl_if}
+use Rattle.bv_terms.specs.BitVectors.{bin_value, bin_width, bit_of, bits, is_negative, lshr_if, shl_if}
 use Rattle.bv_rewrite.specs.declared.view.Swap.TheVariants as swap
 use Rattle.bv_rewrite.specs.declared.view.View.{View}
 use Rattle.bv_rewrite.specs.Neutral.{IsNeutralLeft, IsNeutralRight}
 use Rattle.bv_rewrite.specs.Right.{IsRight}
-use Rattle.bv_rewrite.specs.Views.{Agrees}
 
 -- ---- numbers that change nothing on the right
 

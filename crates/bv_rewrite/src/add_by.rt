@@ -14,8 +14,8 @@ use bv_terms::pool::TermPool;
 use odr_list::memory::Memory;
 
 /// A term with the width of this node, its value under every assignment, and no variable that the node hasn't: what the
-/// book says of it, or else what the pool keeps for it. The pool gains at most one term, and none where memory is wanting. The work is
-/// that of one look-up, whatever the children stand on.
+/// book says of it, or else what the pool keeps for it. The pool gains at most one term, and none where memory is wanting.
+/// The work is that of one look-up, whatever the children stand on.
 pub fn add_by<'a, R: Rewrite>(
     pool: &mut TermPool<'a>,
     node: Node<'a>,

@@ -1,4 +1,5 @@
-//! Rules that hold of every operation they name. Each is a closure's body, as in `Rule::new(|view| neutral_right(view))`.
+//! Rules that hold of every operation they name. Each is a closure's body, as in
+//! `Rule::new(Box::new(alloc, |view| neutral_right(view))?)`.
 ghost use Rattle.std.specs.Prelude.{◌≡◌, ◌⊎◌, ◌-◌, ◌^◌, Some, true, IfSome};
 ghost use Rattle.bv_rewrite.specs.Neutral.{IsNeutralLeft, IsNeutralRight};
 ghost use Rattle.bv_rewrite.specs.Right.{IsRight};
@@ -49,8 +50,8 @@ fn neutral_on_the_left(op: BinOp, width: u8) -> Option<u64>
     }
 }
 
-/// A sum, a difference, an `Or`, an `Xor` or a shift with 0 on the right, a product or a quotient with 1 there, and an `And`
-/// with all ones there are the left child. Takes no memory.
+/// A sum, a difference, an `Or`, an `Xor` or a shift with 0 on the right, a product or a quotient with 1 there, and an
+/// `And` with all ones there are the left child. Takes no memory.
 pub fn neutral_right(view: View) -> Option<Swap>
     ensures { IfSome result (IsRight view) }
 {
@@ -104,8 +105,8 @@ pub fn zero(view: View) -> Option<Swap>
     }
 }
 
-/// Of one term twice, an `And` and an `Or` are that term, a difference, an `Xor` and both orders are 0, and `Eq` is 1. Takes no
-/// memory.
+/// Of one term twice, an `And` and an `Or` are that term, a difference, an `Xor` and both orders are 0, and `Eq` is 1.
+/// Takes no memory.
 pub fn same(view: View) -> Option<Swap>
     ensures { IfSome result (IsRight view) }
 {

@@ -13,9 +13,9 @@ use odr_list::memory::Memory;
 use std::alloc::Global;
 
 /// A term that can stand for the root: it has the root's width, the root's value under every assignment, and no
-/// variable that doesn't occur in the root. From the leaves up each node that the root stands on is made anew by the book, on what
-/// stands for its children; each is met once, in a time that doesn't depend on the other terms of the pool. Older terms stay as they were, also
-/// where memory is wanting.
+/// variable that doesn't occur in the root. From the leaves up each node that the root stands on is made anew by the
+/// book, on what stands for its children. Each is met once, in a time that doesn't depend on the pool's other terms.
+/// Older terms stay as they were, also where memory is wanting.
 pub fn simplify<'a, R: Rewrite>(
     alloc: Global,
     pool: &mut TermPool<'a>,

@@ -1,4 +1,4 @@
-use Rattle.std.proofs.Common.{◌≡◌, ◌-◌, ◌^◌, subst, sym}
+use Rattle.std.proofs.Common.{subst, sym}
 use Rattle.std.proofs.lemmas.Option.{IfSome_then}
 use Rattle.bv_terms.specs.declared.node.BinOp.{BinOp}
 use Rattle.bv_rewrite.specs.Neutral.{IsNeutralLeft}

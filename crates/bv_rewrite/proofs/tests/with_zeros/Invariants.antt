@@ -6,5 +6,5 @@ abbrev pub invariant-loop-i : goal.invariant-loop-i
 invariant-loop-i l = record {
   older : KeepsTerms l.fn.pool l.pool;
   inside : l.sum.number < length l.pool;
-  width : width_at l.pool l.sum.number ≡ width_at l.fn.pool l.term.number;
+  width : width_at l.pool l.sum.number ≡ width_at l.fn.pool l.fn.term.number;
 }
