@@ -16,3 +16,4 @@ pub mod Sure
 pub mod Children
 pub mod Marking
 pub mod Building
+pub mod NameLemmas

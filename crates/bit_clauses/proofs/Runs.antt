@@ -34,18 +34,6 @@ use Rattle.bit_clauses.proofs.Numbers.{spelled-push}
 abbrev pub is_same : Variable → ℕ → ℕ → Bool
 is_same x width number = nat_eq x.width width && nat_eq x.number number
 
-pub first_later : (xs : List Variable) (i width number : ℕ) (d : Variable) → i < length xs → is_same (get_or xs i d) width number ≡ false
-    → first_of (drop i xs) width number ≡ first_of (drop (i + 1) xs) width number
-first_later xs i width number d h e =
-    ap (λ (l : List Variable). first_of l width number) (drop_more xs i d h)
-    ∙ ap (λ b. cond b (Some (get_or xs i d).first) (first_of (drop (i + 1) xs) width number)) e
-
-pub first_here : (xs : List Variable) (i width number : ℕ) (d : Variable) → i < length xs → is_same (get_or xs i d) width number ≡ true
-    → first_of (drop i xs) width number ≡ Some (get_or xs i d).first
-first_here xs i width number d h e =
-    ap (λ (l : List Variable). first_of l width number) (drop_more xs i d h)
-    ∙ ap (λ b. cond b (Some (get_or xs i d).first) (first_of (drop (i + 1) xs) width number)) e
-
 found_before : (xs ys : List Variable) (width number first : ℕ) → first_of xs width number ≡ Some first → first_of (xs ++ ys) width number ≡ Some first
 found_before [] ys width number first e = absurd (none-some first e)
 found_before (x ∷ more) ys width number first e = by_test (is_same x width number) (λ h. found_before more ys width number first h) e

@@ -8,3 +8,4 @@ pub mod Nodes
 pub mod Bits
 pub mod Marks
 pub mod Laws
+pub mod Named

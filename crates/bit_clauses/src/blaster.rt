@@ -11,7 +11,8 @@ ghost use Rattle.bit_clauses.specs.Nodes.{IsOperation, lits_at};
 use crate::bit_list::BitList;
 use crate::marks::needed;
 use crate::nodes::node_bits;
-use crate::variables::{Variable, first_bit, fresh_run, run_bits};
+use crate::variable_map::VariableMap;
+use crate::variables::{Variable, fresh_run, run_bits};
 use bv_terms::node::{Node, TermId};
 use bv_terms::pool::TermPool;
 use clause_store::lit::Lit;
@@ -25,7 +26,7 @@ use std::marker::Model;
 pub struct Blaster {
     // A literal that a clause makes true, once one was asked for.
     yes: Option<Lit>,
-    variables: Vec<Variable>,
+    variables: VariableMap,
     // By the number of the term; none for a term without literals.
     terms: Vec<BitList>,
 }
@@ -35,7 +36,7 @@ impl Model for Blaster {
 
     ghost Value = { Bits };
 
-    ghost view = { λ b. record { sure = b.yes; variables = b.variables.items; terms = b.terms.items } };
+    ghost view = { λ b. record { sure = b.yes; variables = b.variables; terms = b.terms.items } };
 }
 
 impl Blaster {
@@ -45,7 +46,7 @@ impl Blaster {
     {
         Blaster {
             yes: None,
-            variables: Vec::new(alloc),
+            variables: VariableMap::new(alloc),
             terms: Vec::new(alloc),
         }
     }
@@ -91,7 +92,7 @@ impl Blaster {
         ensures terms { IfOk result (λ first. self.new.terms ≡ self.old.terms) }
         ensures err { OnErr result (Grows clauses.old clauses.new) }
     {
-        match first_bit(self.variables.as_slice(), width, number) {
+        match self.variables.first(width, number) {
             Some(first) => Ok(first),
             None => self.make_variable(clauses, width, number),
         }

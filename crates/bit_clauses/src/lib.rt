@@ -18,6 +18,7 @@ mod select;
 mod shift;
 mod subtract;
 mod unary;
+mod variable_map;
 mod variables;
 mod way;
 mod wiring;

@@ -1,7 +1,7 @@
 //! The variables that have literals.
-ghost use Rattle.std.specs.Prelude.{◌≡◌, ◌+◌, ◌≤◌, ◌&&◌, nat_eq, IfOk, OnOk, OnErr};
+ghost use Rattle.std.specs.Prelude.{◌≡◌, ◌+◌, ◌≤◌, IfOk, OnOk, OnErr};
 ghost use Rattle.clause_store.specs.Formula.{AllKnown, Grows};
-ghost use Rattle.bit_clauses.specs.Bits.{first_of, run};
+ghost use Rattle.bit_clauses.specs.Bits.{run};
 
 use crate::bit_list::BitList;
 use clause_store::lit::Lit;
@@ -15,27 +15,6 @@ pub struct Variable {
     pub width: u8,
     pub number: u32,
     pub first: u64,
-}
-
-impl Variable {
-    // Whether this is the variable of a width and a number.
-    fn is(self, width: u8, number: u32) -> bool
-        ensures { result ≡ (nat_eq self.width width && nat_eq self.number number) }
-    {
-        self.width == width && self.number == number
-    }
-}
-
-/// The lowest bit of a variable, if it has literals.
-pub fn first_bit(variables: &[Variable], width: u8, number: u32) -> Option<u64>
-    ensures { result ≡ first_of variables.now width number }
-{
-    for variable in variables {
-        if variable.is(width, number) {
-            return Some(variable.first);
-        }
-    }
-    None
 }
 
 /// So many new variables of clauses, one after another, by the first of them.

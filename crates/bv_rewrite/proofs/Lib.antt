@@ -1,2 +1,3 @@
 pub mod Replacing
-pub mod ZeroRules
+pub mod RuleLemmas
+pub mod Walking

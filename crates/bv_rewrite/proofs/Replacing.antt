@@ -1,22 +1,21 @@
 -- What stands in a node's place by a right swap.
-use Rattle.std.proofs.Common.{◌≡◌, ℕ, ◌<◌, ◌^◌, List, Some, length, refl, sym, ◌∙◌, ap, subst, inl, inr, nat_eq, arith}
-use Rattle.std.specs.Prelude.{◌⊎◌, Option, IfSome, Contains, slice_get}
-use Rattle.std.proofs.lemmas.Option.{IfSome_then, slice_get_within}
+use Rattle.std.proofs.Common.{◌≡◌, ℕ, ◌<◌, ◌^◌, true, List, length, refl, sym, ◌∙◌, ap, subst, inl, inr, nat_eq, arith}
+use Rattle.std.specs.Prelude.{Option, IfSome}
+use Rattle.std.proofs.lemmas.Option.{IfSome_then}
 use Rattle.std.proofs.lemmas.Bool.{eqb-true}
 use Rattle.std.proofs.lemmas.Nat.{pow_pos}
 use Rattle.bv_terms.specs.declared.node.BinOp.{BinOp}
 use Rattle.bv_terms.specs.declared.node.BinOp.TheVariants as op
 use Rattle.bv_terms.specs.BitVectors.{bin_value, bin_width}
-use Rattle.bv_terms.specs.Fitting.{AreOperands, IsFitting}
-use Rattle.bv_terms.specs.Shapes.{Shape, Const, Var, Bin, children}
+use Rattle.bv_terms.specs.Fitting.{AreOperands}
+use Rattle.bv_terms.specs.Shapes.{Shape, Const, Var, Bin}
 use Rattle.bv_terms.specs.Values.{Assignment, term_at, value_at, width_at}
-use Rattle.bv_terms.specs.Variables.{Occurs, Inside, IsTermOf}
+use Rattle.bv_terms.specs.Variables.{IsTermOf, OccursOnlyBy}
 use Rattle.bv_rewrite.specs.declared.view.Swap.{Swap}
 use Rattle.bv_rewrite.specs.declared.view.Swap.TheVariants as swap
 use Rattle.bv_rewrite.specs.declared.view.View.{View}
-use Rattle.bv_rewrite.specs.Right.{IsRight, KeepsWidth, swap_value}
-use Rattle.bv_rewrite.specs.Simpler.{StandsFor}
-use Rattle.bv_rewrite.specs.Swapped.{CanReplace, ChildFits, HoldsOf}
+use Rattle.bv_rewrite.specs.Right.{IsRight, swap_value, takes_child}
+use Rattle.bv_rewrite.specs.Swapped.{ChildFits, HoldsOf}
 use Rattle.bv_rewrite.specs.Views.{Agrees, view_of}
 
 -- operands of any other operation than Concat have one width
@@ -37,10 +36,10 @@ one_width op.Ult left right other fit = fit
 one_width op.Slt left right other fit = fit
 one_width op.Concat left right other fit = absurd (other refl)
 
-child_fits : (nodes : List Shape) (o : BinOp) (left right : ℕ) (s : Swap) → width_at nodes left ≡ width_at nodes right → KeepsWidth (view_of nodes o left right) s → ChildFits nodes o left right s
-child_fits nodes o left right swap.Left one kept = subst (λ n. bin_width o (width_at nodes left) n ≡ width_at nodes left) one kept
-child_fits nodes o left right swap.Right one kept = subst (λ n. bin_width o (width_at nodes left) n ≡ n) one kept
-child_fits nodes o left right (swap.Value value) one kept = kept
+child_fits : (nodes : List Shape) (o : BinOp) (left right : ℕ) (s : Swap) → width_at nodes left ≡ width_at nodes right → (takes_child s ≡ true → bin_width o (width_at nodes left) (width_at nodes left) ≡ width_at nodes left) → ChildFits nodes o left right s
+child_fits nodes o left right swap.Left one kept = subst (λ n. bin_width o (width_at nodes left) n ≡ width_at nodes left) one (kept refl)
+child_fits nodes o left right swap.Right one kept = subst (λ n. bin_width o (width_at nodes left) n ≡ n) one (kept refl)
+child_fits nodes o left right (swap.Value value) one kept = tt
 
 pub holds_of : (nodes : List Shape) (o : BinOp) (left right : ℕ) (s : Swap) → width_at nodes left ≡ width_at nodes right
     → ((w : Assignment) → Agrees (view_of nodes o left right) (value_at w nodes left) (value_at w nodes right))
@@ -52,29 +51,6 @@ holds_of nodes o left right s one agrees law = record {
       (law.value (value_at w nodes left) (value_at w nodes right) (agrees w));
 }
 
--- a node with an operation on two terms
-pub record IsOperation (nodes : List Shape) (root : ℕ) (o : BinOp) (left right : ℕ) : Type 0 where
-  pub inside : root < length nodes
-  pub node : slice_get nodes root ≡ Some (Bin o left right)
-  pub fitting : IsFitting (width_at nodes) root (Bin o left right)
-  pub width : width_at nodes root ≡ bin_width o (width_at nodes left) (width_at nodes right)
-  pub value : (w : Assignment) → value_at w nodes root ≡ bin_value o (term_at w nodes left) (term_at w nodes right)
-
-pub can_replace : (nodes : List Shape) (root : ℕ) (o : BinOp) (left right : ℕ) (s : Swap) → IsOperation nodes root o left right → HoldsOf nodes o left right s → CanReplace nodes root left right s
-can_replace nodes root o left right swap.Left is holds = record {
-  inside = omega (arith, is.inside, is.fitting.0);
-  width = sym (is.width ∙ holds.width);
-  value = λ w. sym (is.value w ∙ holds.value w);
-  occurs = λ width number there. Inside root left (Bin o left right) is.node (0, omega arith, refl) there;
-}
-can_replace nodes root o left right swap.Right is holds = record {
-  inside = omega (arith, is.inside, is.fitting.1);
-  width = sym (is.width ∙ holds.width);
-  value = λ w. sym (is.value w ∙ holds.value w);
-  occurs = λ width number there. Inside root right (Bin o left right) is.node (1, omega arith, refl) there;
-}
-can_replace nodes root o left right (swap.Value value) is holds = λ w. is.value w ∙ holds.value w
-
 -- what the book answers to the view of two terms holds of them
 pub answers_hold : (nodes : List Shape) (o : BinOp) (left right : ℕ) (view : View) (answer : Option Swap) → view ≡ view_of nodes o left right → width_at nodes left ≡ width_at nodes right
     → ((w : Assignment) → Agrees view (value_at w nodes left) (value_at w nodes right)) → IfSome answer (IsRight view) → IfSome answer (HoldsOf nodes o left right)
@@ -82,28 +58,48 @@ answers_hold nodes o left right view answer is one agrees law =
     let shown = subst (λ (v : View). (w : Assignment) → Agrees v (value_at w nodes left) (value_at w nodes right)) is agrees in
     IfSome_then answer (subst (λ (v : View). IfSome answer (IsRight v)) is law) (λ s h. holds_of nodes o left right s one shown h)
 
+-- a child that a right swap names has the width and the values of the operation
+pub left_holds : (nodes : List Shape) (o : BinOp) (left right : ℕ) → left < length nodes → HoldsOf nodes o left right swap.Left → IsTermOf nodes nodes (Bin o left right) left
+left_holds nodes o left right inside holds = record {
+  inside = inside;
+  width = sym holds.width;
+  value = λ w. sym (holds.value w);
+  occurs = λ of number there. inr (left, (0, omega arith, refl), there);
+}
+
+pub right_holds : (nodes : List Shape) (o : BinOp) (left right : ℕ) → right < length nodes → HoldsOf nodes o left right swap.Right → IsTermOf nodes nodes (Bin o left right) right
+right_holds nodes o left right inside holds = record {
+  inside = inside;
+  width = sym holds.width;
+  value = λ w. sym (holds.value w);
+  occurs = λ of number there. inr (right, (1, omega arith, refl), there);
+}
+
 zeros : Assignment
 zeros = record { value_of = λ width number. 0; below = λ width number. pow_pos width }
 
--- a constant that is the root's value fits the root's width
-pub constant_fits : (nodes : List Shape) (root width value : ℕ) → ((w : Assignment) → value_at w nodes root < 2 ^ width) → ((w : Assignment) → value_at w nodes root ≡ value) → value < 2 ^ width
-constant_fits nodes root width value below is = subst (λ v. v < 2 ^ width) (is zeros) (below zeros)
+-- a constant that is the node's value fits the node's width
+pub constant_fits : (nodes : List Shape) (o : BinOp) (left right width value : ℕ) → ((w : Assignment) → bin_value o (term_at w nodes left) (term_at w nodes right) < 2 ^ width) → HoldsOf nodes o left right (swap.Value value) → value < 2 ^ width
+constant_fits nodes o left right width value below holds = subst (λ v. v < 2 ^ width) (holds.value zeros) (below zeros)
 
 differ : (width value of number : ℕ) → Const width value ≡ Var of number → ⊥
 differ width value of number e = cc
 
--- a constant stands for the root whose value it is
-pub constant_stands : (old new : List Shape) (root width value id : ℕ) → width ≡ width_at old root → ((w : Assignment) → value_at w old root ≡ value) → IsTermOf old new (Const width value) id → StandsFor old new root id
-constant_stands old new root width value id same is term = record {
-  inside = slice_get_within new id (Const width value) term.found;
+-- no variable occurs in a constant
+none_occurs : (old new : List Shape) (id width value : ℕ) (node : Shape) → OccursOnlyBy old new id (Const width value) → OccursOnlyBy old new id node
+none_occurs old new id width value node only of number there = elim (only of number there) [
+  | inl e ↦ absurd (differ width value of number e)
+  | inr (child, (k, lt, e), occurs) ↦ absurd (omega arith)
+]
+
+pub constant_holds : (old new : List Shape) (o : BinOp) (left right width value id : ℕ) → width ≡ bin_width o (width_at old left) (width_at old right) → HoldsOf old o left right (swap.Value value)
+    → IsTermOf old new (Const width value) id → IsTermOf old new (Bin o left right) id
+constant_holds old new o left right width value id same holds term = record {
+  inside = term.inside;
   width = term.width ∙ same;
-  value = λ w. term.value w ∙ sym (is w);
-  occurs = λ of number there. none of number (term.occurs of number there);
+  value = λ w. term.value w ∙ sym (holds.value w);
+  occurs = none_occurs old new id width value (Bin o left right) term.occurs;
 }
-  where
-    none : (of number : ℕ) → (Const width value ≡ Var of number) ⊎ ((child : ℕ) × Contains (children (Const width value)) child × Occurs old of number child) → Occurs old of number root
-    none of number (inl e) = absurd (differ width value of number e)
-    none of number (inr (child, (k, lt, e), there)) = absurd (omega arith)
 
 -- what is known of a term that is a constant holds under each assignment
 at_assignment : (constant : Option ℕ) (value : Assignment → ℕ) → IfSome constant (λ number. (w : Assignment) → value w ≡ number) → (w : Assignment) → IfSome constant (λ number. value w ≡ number)

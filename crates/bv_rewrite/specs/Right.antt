@@ -1,5 +1,5 @@
 -- Which answers of a rule are right.
-use Rattle.std.specs.Prelude.{◌≡◌, ℕ, ⊤}
+use Rattle.std.specs.Prelude.{◌≡◌, ℕ, Bool, true, false}
 use Rattle.bv_terms.specs.BitVectors.{bin_value, bin_width, bits}
 use Rattle.bv_rewrite.specs.declared.view.Swap.{Swap}
 use Rattle.bv_rewrite.specs.declared.view.Swap.TheVariants as swap
@@ -12,12 +12,12 @@ swap_value swap.Left left right = left
 swap_value swap.Right left right = right
 swap_value (swap.Value value) left right = value
 
--- a child stands only in the place of a node of its own width
-abbrev pub KeepsWidth : View → Swap → Type 0
-KeepsWidth view (swap.Value value) = ⊤
-KeepsWidth view child = bin_width view.op view.width view.width ≡ view.width
+-- the swap puts a child in the node's place
+abbrev pub takes_child : Swap → Bool
+takes_child (swap.Value value) = false
+takes_child child = true
 
--- the swap may stand in the place of every node with this view
+-- the swap may stand in the place of every node with this view; a child only in that of a node of its own width
 pub record IsRight (view : View) (swap : Swap) : Type 0 where
-  pub width : KeepsWidth view swap
+  pub width : takes_child swap ≡ true → bin_width view.op view.width view.width ≡ view.width
   pub value : (left right : ℕ) → Agrees view left right → bin_value view.op (bits view.width left) (bits view.width right) ≡ swap_value swap left right

@@ -1,4 +1,4 @@
--- What a right swap does for a node of a pool.
+-- What a right swap says of an operation on two terms of a pool.
 use Rattle.std.specs.Prelude.{◌≡◌, ℕ, ⊤, List}
 use Rattle.bv_terms.specs.BitVectors.{bin_value, bin_width}
 use Rattle.bv_terms.specs.declared.node.BinOp.{BinOp}
@@ -7,7 +7,6 @@ use Rattle.bv_terms.specs.Values.{Assignment, term_at, value_at, width_at}
 use Rattle.bv_rewrite.specs.declared.view.Swap.{Swap}
 use Rattle.bv_rewrite.specs.declared.view.Swap.TheVariants as swap
 use Rattle.bv_rewrite.specs.Right.{swap_value}
-use Rattle.bv_rewrite.specs.Simpler.{StandsFor}
 
 -- a child that is chosen has the width of the operation
 abbrev pub ChildFits : List Shape → BinOp → ℕ → ℕ → Swap → Type 0
@@ -19,9 +18,3 @@ ChildFits nodes op left right (swap.Value value) = ⊤
 pub record HoldsOf (nodes : List Shape) (op : BinOp) (left right : ℕ) (swap : Swap) : Type 0 where
   pub width : ChildFits nodes op left right swap
   pub value : (w : Assignment) → bin_value op (term_at w nodes left) (term_at w nodes right) ≡ swap_value swap (value_at w nodes left) (value_at w nodes right)
-
--- the root may be replaced by what the swap says of these two terms
-abbrev pub CanReplace : List Shape → ℕ → ℕ → ℕ → Swap → Type 0
-CanReplace nodes root left right swap.Left = StandsFor nodes nodes root left
-CanReplace nodes root left right swap.Right = StandsFor nodes nodes root right
-CanReplace nodes root left right (swap.Value value) = (w : Assignment) → value_at w nodes root ≡ value

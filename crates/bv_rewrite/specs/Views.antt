@@ -4,7 +4,7 @@ use Rattle.bv_terms.specs.declared.node.BinOp.{BinOp}
 use Rattle.bv_terms.specs.Shapes.{Shape}
 use Rattle.bv_terms.specs.Values.{width_at}
 use Rattle.bv_rewrite.specs.declared.view.View.{View}
-use Rattle.bv_rewrite.specs.Constants.{constant_at}
+use Rattle.bv_terms.specs.Constants.{constant_at}
 
 -- the view of an operation on two terms of one width
 abbrev pub view_of : List Shape → BinOp → ℕ → ℕ → View

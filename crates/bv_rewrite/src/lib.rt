@@ -2,10 +2,14 @@
 //! what may stand in the node's place.
 #![tactic(auto)]
 
+pub mod add_by;
 pub mod rewrite;
+pub mod rule;
+pub mod rules;
 pub mod simplify;
 #[cfg(test)]
 mod tests;
 pub mod view;
+mod walk;
 
 pub use odr_list::memory::Memory;

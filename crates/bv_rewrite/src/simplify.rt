@@ -1,20 +1,21 @@
 //! Terms made simpler by a book of rules.
-ghost use Rattle.std.specs.Prelude.{◌<◌, length, IfOk, IfSome};
-ghost use Rattle.bv_terms.specs.Fitting.{AreOperands};
-ghost use Rattle.bv_terms.specs.Values.{KeepsTerms, width_at};
+ghost use Rattle.std.specs.Prelude.{◌<◌, length, IfOk};
+ghost use Rattle.bv_terms.specs.Values.{KeepsTerms};
+ghost use Rattle.bv_terms.specs.Variables.{KeepsVariables};
 ghost use Rattle.bv_rewrite.specs.Simpler.{StandsFor};
-ghost use Rattle.bv_rewrite.specs.Swapped.{CanReplace, HoldsOf};
 
 use crate::rewrite::Rewrite;
-use crate::view::{Swap, View};
-use bv_terms::node::{BinOp, Node, TermId};
+use crate::walk::{Visit, follow, stands_for};
+use bv_terms::node::TermId;
 use bv_terms::pool::TermPool;
+use indexmap::IndexMap;
 use odr_list::memory::Memory;
 use std::alloc::Global;
 
 /// A term that can stand for the root: it has the root's width, the root's value under every assignment, and no
-/// variable that doesn't occur in the root. Older terms stay as they were, also where memory is wanting. The book is
-/// asked about the root's node alone.
+/// variable that doesn't occur in the root. From the leaves up each node that the root stands on is made anew by the
+/// book, on what stands for its children. Each is met once, in a time that doesn't depend on the pool's other terms.
+/// Older terms stay as they were, also where memory is wanting.
 pub fn simplify<'a, R: Rewrite>(
     alloc: Global,
     pool: &mut TermPool<'a>,
@@ -24,55 +25,13 @@ pub fn simplify<'a, R: Rewrite>(
     requires { root.number < length pool.old }
     ensures term { IfOk result (λ id. StandsFor pool.old pool.new root.number id.number) }
     ensures older { KeepsTerms pool.old pool.new }
+    ensures variables { KeepsVariables pool.old pool.new }
 {
-    let _ = alloc;
-    match pool.node(root) {
-        Node::Bin { op, left, right } => match asked(pool, op, left, right, book) {
-            Some(swap) => replaced(pool, root, left, right, swap),
-            None => Ok(root),
-        },
-        _ => Ok(root),
+    let mut done = IndexMap::new(alloc);
+    let mut walk = Vec::new(alloc);
+    walk.push(Visit::Enter(root))?;
+    while let Some(visit) = walk.pop() {
+        follow(pool, &mut walk, &mut done, visit, book)?;
     }
-}
-
-// What the book says of an operation on two terms. It isn't asked about a Concat.
-fn asked<R: Rewrite>(
-    pool: &TermPool<'_>,
-    op: BinOp,
-    left: TermId,
-    right: TermId,
-    book: &R,
-) -> Option<Swap>
-    requires left_inside { left.number < length pool.now }
-    requires right_inside { right.number < length pool.now }
-    requires operands { AreOperands op (width_at pool.now left.number) (width_at pool.now right.number) }
-    ensures { IfSome result (HoldsOf pool.now op left.number right.number) }
-{
-    match op {
-        BinOp::Concat => None,
-        _ => book.swap(View::of(pool, op, left, right)),
-    }
-}
-
-// The term that the swap puts in the root's place.
-fn replaced(
-    pool: &mut TermPool<'_>,
-    root: TermId,
-    left: TermId,
-    right: TermId,
-    swap: Swap,
-) -> Result<TermId, Memory>
-    requires inside { root.number < length pool.old }
-    requires right { CanReplace pool.old root.number left.number right.number swap }
-    ensures term { IfOk result (λ id. StandsFor pool.old pool.new root.number id.number) }
-    ensures older { KeepsTerms pool.old pool.new }
-{
-    match swap {
-        Swap::Left => Ok(left),
-        Swap::Right => Ok(right),
-        Swap::Value(value) => {
-            let width = pool.width(root);
-            pool.add(Node::Const { width, value })
-        }
-    }
+    Ok(stands_for(&done, root))
 }

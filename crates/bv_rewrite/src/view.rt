@@ -1,10 +1,9 @@
 //! What a rule is shown, and what it answers.
-ghost use Rattle.std.specs.Prelude.{◌≡◌, ◌<◌, length, IfSome};
+ghost use Rattle.std.specs.Prelude.{◌≡◌, ◌<◌, length};
 ghost use Rattle.bv_terms.specs.Values.{Assignment, value_at, width_at};
-ghost use Rattle.bv_rewrite.specs.Constants.{constant_at};
 ghost use Rattle.bv_rewrite.specs.Views.{Agrees, view_of};
 
-use bv_terms::node::{BinOp, Node, TermId};
+use bv_terms::node::{BinOp, TermId};
 use bv_terms::pool::TermPool;
 
 /// An operation on two terms of one width, other than `Concat`, as far as rules see it.
@@ -49,20 +48,8 @@ impl View {
             op,
             width,
             same: left.number == right.number,
-            left: constant(pool, left),
-            right: constant(pool, right),
+            left: pool.constant(left),
+            right: pool.constant(right),
         }
-    }
-}
-
-// The value of a term that is a constant.
-fn constant(pool: &TermPool<'_>, id: TermId) -> Option<u64>
-    requires { id.number < length pool.now }
-    ensures constant { result ≡ constant_at pool.now id.number }
-    ensures value { IfSome result (λ value. (w : Assignment) → value_at w pool.now id.number ≡ value) }
-{
-    match pool.node(id) {
-        Node::Const { value, .. } => Some(value),
-        _ => None,
     }
 }

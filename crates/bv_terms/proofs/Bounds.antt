@@ -9,7 +9,7 @@ use Rattle.bv_terms.specs.declared.node.BinOp.TheVariants as op
 use Rattle.bv_terms.specs.BitVectors.{BitVector, bit_of, is_negative, bin_width, bin_value, not_value, shl_if, lshr_if, lshr_value, is_signed_less}
 use Rattle.bv_terms.specs.Shapes.{Shape, Const, Var, Not, Neg, Bin, Extract, ZeroExtend, SignExtend, Ite, ByteSelect}
 use Rattle.bv_terms.specs.Values.{Assignment, node_width, node_value, width_at, value_at}
-use Rattle.bv_terms.specs.Fitting.{IsFitting, AreOperands, IsWidth}
+use Rattle.bv_terms.specs.Fitting.{IsFitting, AreOperands, IsBits, IsWidth}
 use Rattle.bv_terms.specs.Placed.{AreFitting}
 use Rattle.bv_terms.proofs.Terms.{has_node}
 
@@ -32,7 +32,7 @@ lshr_below : (b : Bool) (a by n : ℕ) → a < n → lshr_if b a by < n
 lshr_below true a by n h = omega (arith, shr_le a by)
 lshr_below false a by n h = omega arith
 
-concat_below : (a b : BitVector) → a.value < 2 ^ a.width → b.value < 2 ^ b.width → a.value * 2 ^ b.width + b.value < 2 ^ (a.width + b.width)
+pub concat_below : (a b : BitVector) → a.value < 2 ^ a.width → b.value < 2 ^ b.width → a.value * 2 ^ b.width + b.value < 2 ^ (a.width + b.width)
 concat_below a b h k =
     subst (λ n. a.value * 2 ^ b.width + b.value < n) (mul_comm (2 ^ b.width) (2 ^ a.width) ∙ sym (pow-add 2 a.width b.width))
     (mul-add-lt a.value (2 ^ b.width) b.value (2 ^ a.width) h k)
@@ -58,11 +58,7 @@ same_width op.Concat a b e h k = concat_below a b h k
 
 -- ---- a node
 
-pub record IsSound (width value : ℕ) : Type 0 where
-  pub within : IsWidth width
-  pub below : value < 2 ^ width
-
-bin_sound : (o : BinOp) (a b : BitVector) → AreOperands o a.width b.width → IsSound a.width a.value → IsSound b.width b.value → IsSound (bin_width o a.width b.width) (bin_value o a b)
+bin_sound : (o : BinOp) (a b : BitVector) → AreOperands o a.width b.width → IsBits a.width a.value → IsBits b.width b.value → IsBits (bin_width o a.width b.width) (bin_value o a b)
 bin_sound op.And a b e h k = record { within = h.within; below = same_width op.And a b e h.below k.below }
 bin_sound op.Or a b e h k = record { within = h.within; below = same_width op.Or a b e h.below k.below }
 bin_sound op.Xor a b e h k = record { within = h.within; below = same_width op.Xor a b e h.below k.below }
@@ -83,8 +79,8 @@ sign_below : (b : Bool) (width more value : ℕ) → width ≤ more → value < 
 sign_below true width more value h k = let e : 2 ^ width ≤ 2 ^ more = pow_mono h in omega arith
 sign_below false width more value h k = let e : 2 ^ width ≤ 2 ^ more = pow_mono h in omega arith
 
-pub node_sound : (w : Assignment) (f v : ℕ → ℕ) (count : ℕ) (node : Shape) → IsFitting f count node → ((c : ℕ) → c < count → IsSound (f c) (v c))
-    → IsSound (node_width f node) (node_value w (λ c. record { width = f c; value = v c }) node)
+pub node_sound : (w : Assignment) (f v : ℕ → ℕ) (count : ℕ) (node : Shape) → IsFitting f count node → ((c : ℕ) → c < count → IsBits (f c) (v c))
+    → IsBits (node_width f node) (node_value w (λ c. record { width = f c; value = v c }) node)
 node_sound w f v count (Const width value) fit sound = record { within = fit.0; below = fit.1 }
 node_sound w f v count (Var width number) fit sound = record { within = fit; below = w.below width number }
 node_sound w f v count (Not of) fit sound = record { within = (sound of fit).within; below = ones_below (f of) (v of) }
@@ -109,19 +105,19 @@ node_sound w f v count (ByteSelect first bytes index) fit sound =
 
 -- ---- a term
 
-by_bound : (w : Assignment) (nodes : List Shape) → AreFitting nodes → (bound id : ℕ) → id < bound → id < length nodes → IsSound (width_at nodes id) (value_at w nodes id)
+by_bound : (w : Assignment) (nodes : List Shape) → AreFitting nodes → (bound id : ℕ) → id < bound → id < length nodes → IsBits (width_at nodes id) (value_at w nodes id)
 by_bound w nodes fit zero id h within = absurd (omega arith)
 by_bound w nodes fit (suc bound) id h within =
     let node = get_or nodes id (Const 0 0) in
     let at = slice_get-get_or nodes id (Const 0 0) within in
     let has = has_node nodes id node at (fit id node at) in
     let sound = node_sound w (width_at nodes) (value_at w nodes) id node (fit id node at) (λ c b. by_bound w nodes fit bound c (omega (arith, b, h)) (omega (arith, b, within))) in
-    subst (λ n. IsSound n (value_at w nodes id)) (sym has.width) (subst (λ v. IsSound (node_width (width_at nodes) node) v) (sym (has.value w)) sound)
+    subst (λ n. IsBits n (value_at w nodes id)) (sym has.width) (subst (λ v. IsBits (node_width (width_at nodes) node) v) (sym (has.value w)) sound)
 
-pub term_sound : (w : Assignment) (nodes : List Shape) → AreFitting nodes → (id : ℕ) → id < length nodes → IsSound (width_at nodes id) (value_at w nodes id)
+pub term_sound : (w : Assignment) (nodes : List Shape) → AreFitting nodes → (id : ℕ) → id < length nodes → IsBits (width_at nodes id) (value_at w nodes id)
 term_sound w nodes fit id within = by_bound w nodes fit (suc id) id (omega arith) within
 
-zeros : Assignment
+pub zeros : Assignment
 zeros = record { value_of = λ width number. 0; below = λ width number. pow_pos width }
 
 pub width_within : (nodes : List Shape) → AreFitting nodes → (id width : ℕ) → id < length nodes → width ≡ width_at nodes id → IsWidth width

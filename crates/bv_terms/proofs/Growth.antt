@@ -1,5 +1,5 @@
 -- What a pool keeps, after one more node.
-use Rattle.std.proofs.Common.{◌≡◌, ℕ, ◌<◌, Bool, true, false, cond, List, [], ◌∷◌, ◌++◌, length, Some, slice_get, sym, ◌∙◌, ap, subst, arith, length-append, inl, inr}
+use Rattle.std.proofs.Common.{◌≡◌, ℕ, ◌<◌, Bool, true, false, cond, List, [], ◌∷◌, ◌++◌, length, Some, slice_get, refl, sym, ◌∙◌, ap, subst, arith, length-append, inl, inr}
 use Rattle.std.specs.Prelude.{option_map}
 use Rattle.std.proofs.lemmas.Bool.{cases_lt}
 use Rattle.std.proofs.lemmas.List.{map_push, length-map}
@@ -9,6 +9,7 @@ use Rattle.bv_terms.specs.Shapes.{Shape, shape_of}
 use Rattle.bv_terms.specs.Values.{width_at, node_width, KeepsTerms}
 use Rattle.bv_terms.specs.Fitting.{IsFitting}
 use Rattle.bv_terms.specs.Placed.{AreFitting, ArePlaced, shapes_of}
+use Rattle.bv_terms.specs.Shared.{GainsAtMost}
 use Rattle.bv_terms.specs.Variables.{IsTermOf}
 use Rattle.bv_terms.proofs.Terms.{keeps-append, keeps-same, AreFitting-push, is_term_of, width_at-push}
 use Rattle.bv_terms.proofs.Gathered.{slice_get-append, slice_get-push}
@@ -52,10 +53,18 @@ placed_grown old _ term Added placed fits width =
       ];
     }
 
--- what `add` ensures of the term that it answers
+-- where the term was found or added
+pub found_grown : (new : List Term) (term : Term) (id : ℕ) (found : Term) → slice_get new id ≡ Some found → shape_of term.node ≡ shape_of found.node → slice_get (shapes_of new) id ≡ Some (shape_of term.node)
+found_grown new term id found at same = slice_get-map (λ (t : Term). shape_of t.node) new id ∙ ap (option_map (λ (t : Term). shape_of t.node)) at ∙ ap (λ (n : Shape). Some n) (sym same)
+
+-- what `store` ensures of the term that it answers
 pub term_grown : (old new : List Term) (term : Term) → Grown old term new → ArePlaced old
     → IsFitting (width_at (shapes_of old)) (length (shapes_of old)) (shape_of term.node) → term.width ≡ node_width (width_at (shapes_of old)) (shape_of term.node)
     → (id : ℕ) (found : Term) → slice_get new id ≡ Some found → shape_of term.node ≡ shape_of found.node → IsTermOf (shapes_of old) (shapes_of new) (shape_of term.node) id
 term_grown old new term grown placed fits width id found at same =
     is_term_of (shapes_of old) (shapes_of new) (keeps_grown old new term grown) placed.fitting (placed_grown old new term grown placed fits width).fitting id (shape_of term.node)
-    (slice_get-map (λ (t : Term). shape_of t.node) new id ∙ ap (option_map (λ (t : Term). shape_of t.node)) at ∙ ap (λ (n : Shape). Some n) (sym same)) fits
+    (found_grown new term id found at same) fits
+
+pub gains_grown : (old new : List Term) (term : Term) → Grown old term new → (id : ℕ) → slice_get (shapes_of new) id ≡ Some (shape_of term.node) → GainsAtMost (shapes_of old) (shapes_of new) id
+gains_grown old _ term Found id at = inl refl
+gains_grown old _ term Added id at = inr (shape_of term.node, at, map_push (λ (t : Term). shape_of t.node) old term)

@@ -4,3 +4,4 @@ pub mod Bounds
 pub mod Equal
 pub mod Growth
 pub mod Shared
+pub mod Folding

@@ -15,6 +15,7 @@ use Rattle.bv_terms.specs.contracts.node.NodePartialEq.TheImpl.{ghosts}
 use Rattle.bv_terms.specs.contracts.term.TermPartialEq.TheImpl as of_term
 use Rattle.bv_terms.specs.Placed.{ArePlaced, shapes_of}
 use Rattle.bv_terms.specs.Shapes.{Shape, shape_of}
+use Rattle.bv_terms.specs.Shared.{IsShared}
 use Rattle.bv_terms.specs.Values.{node_width, width_at}
 use Rattle.bv_terms.proofs.Equal.{eq_terms}
 use Rattle.bv_terms.proofs.Terms.{has_node}
@@ -73,20 +74,21 @@ there [] place node at = cc
 there (t ∷ terms) zero node at = record { term = t; at = refl; shape = cc }
 there (t ∷ terms) (suc place) node at = let more = there terms place node at in record { term = more.term; at = more.at; shape = more.shape }
 
--- what `add` ensures where the node is there
+-- what `store` ensures where the node is there
 pub shared : (old new : List Term) (term : Term) (id : ℕ) (stored : Term) → ArePlaced old
     → term.width ≡ node_width (width_at (shapes_of old)) (shape_of term.node) → new ≡ insert_key of_term.ghosts.eq old term
     → IsDistinct of_term.ghosts.eq new → slice_get new id ≡ Some stored → of_term.ghosts.eq term stored ≡ true
-    → (place : ℕ) → slice_get (shapes_of old) place ≡ Some (shape_of term.node) → (id ≡ place) × (shapes_of new ≡ shapes_of old)
-shared old new term id stored placed width keys distinct stored_at same place at =
+    → slice_get (shapes_of new) id ≡ Some (shape_of term.node) → IsShared (shapes_of old) (shapes_of new) id
+shared old new term id stored placed width keys distinct stored_at same found other place its at_other =
     let node = shape_of term.node in
+    let at : slice_get (shapes_of old) place ≡ Some node = at_other ∙ sym its ∙ found in
     let here = there old place node at in
     let its_width : term.width ≡ here.term.width = width ∙ sym (has_node (shapes_of old) place node at (placed.fitting place node at)).width ∙ sym (placed.widths place here.term here.at) in
     let equal : of_term.ghosts.eq term here.term ≡ true = eq_from_parts term here.term (sym here.shape) its_width in
-    let found : list_any (of_term.ghosts.eq term) old ≡ true =
+    let is_there : list_any (of_term.ghosts.eq term) old ≡ true =
     list_any_at (of_term.ghosts.eq term) old place term (slice_get_within old place here.term here.at)
     (subst (λ t. of_term.ghosts.eq term t ≡ true) (sym (get_or_from_slice_get old place here.term term here.at)) equal) in
-    let kept : new ≡ old = keys ∙ ap (λ b. cond b old (old ++ term ∷ [])) found in
+    let kept : new ≡ old = keys ∙ ap (λ b. cond b old (old ++ term ∷ [])) is_there in
     let shapes : shape_of stored.node ≡ shape_of here.term.node = sym (eq_terms term stored same) ∙ sym here.shape in
     let widths : stored.width ≡ here.term.width = sym (eq_widths term stored same) ∙ its_width in (
       one_place of_term.ghosts.eq stored here.term new id place distinct stored_at (ap (λ l. slice_get l place) kept ∙ here.at)

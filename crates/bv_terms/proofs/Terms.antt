@@ -205,7 +205,7 @@ pub is_term_of : (old new : List Shape) → KeepsTerms old new → AreFitting ol
 is_term_of old new keeps old_fit new_fit id node at fits =
     let has = has_node new id node at (new_fit id node at) in
     record {
-      found = at;
+      inside = slice_get_within new id node at;
       width = has.width ∙ node_width-below (width_at old) (width_at new) (length old) node (λ c h. keeps.width c h) fits;
       value = λ w. has.value w ∙ sym (node_value-same w (width_at old) (term_at w old) (term_at w new) (length old) node fits (λ c h. sym (term_at-kept w old new keeps c h)));
       occurs = occurs_by old new keeps old_fit id node at fits;

@@ -25,3 +25,8 @@ IsFitting width_of count (ZeroExtend of width) = (of < count) × (width_of of �
 IsFitting width_of count (SignExtend of width) = (of < count) × (width_of of ≤ width) × (width ≤ 64)
 IsFitting width_of count (Ite test first second) = (test < count) × (first < count) × (second < count) × (width_of test ≡ 1) × (width_of first ≡ width_of second)
 IsFitting width_of count (ByteSelect first bytes index) = index < count
+
+-- a value of so many bits
+pub record IsBits (width value : ℕ) : Type 0 where
+  pub within : IsWidth width
+  pub below : value < 2 ^ width

@@ -5,3 +5,5 @@ pub mod Fitting
 pub mod Variables
 pub mod Placed
 pub mod Shared
+pub mod Constants
+pub mod Folded

@@ -2,10 +2,12 @@
 //! theory FixedSizeBitVectors and of its logic QF_BV.
 #![tactic(auto)]
 
+mod bits;
 pub mod node;
 pub mod pool;
 mod term;
 #[cfg(test)]
 mod tests;
+mod value;
 
 pub use odr_list::memory::Memory;

@@ -1,10 +1,13 @@
-ghost use Rattle.std.specs.Prelude.{◌≡◌, [], ◌∷◌};
+ghost use Rattle.std.specs.Prelude.{◌≡◌, ◌<◌, [], ◌∷◌, length, IfOk};
 ghost use Rattle.bv_terms.specs.declared.node.BinOp.TheVariants as op;
 ghost use Rattle.bv_terms.specs.BitVectors.{bin_value, bits, byte_value, extract_value, neg_value, not_value, sign_extend_value};
+ghost use Rattle.bv_terms.specs.Values.{KeepsTerms, width_at};
 
-use crate::node::Node;
+use crate::node::{BinOp, Node, TermId};
 use crate::pool::TermPool;
 use bumpalo::Bump;
+use odr_list::memory::Memory;
+use std::alloc::Global;
 use std::test::Fail;
 
 // The definitions at values that were worked out from the formulas of the standard by hand.
@@ -69,5 +72,116 @@ fn equal_nodes_share_an_id(rt: HostRuntime) -> Result<(), Fail> {
             number: 0
         }
     );
+    Ok(())
+}
+
+// A constant of 8 bits.
+fn byte(pool: &mut TermPool<'_>, value: u8) -> Result<TermId, Memory>
+    ensures inside { IfOk result (λ id. id.number < length pool.new) }
+    ensures width { IfOk result (λ id. width_at pool.new id.number ≡ 8) }
+    ensures older { KeepsTerms pool.old pool.new }
+{
+    pool.add(Node::Const {
+        width: 8,
+        value: value as u64,
+    })
+}
+
+// The width and the value of the constant that an operation on two constants of 8 bits becomes.
+fn folded(alloc: Global, op: BinOp, left: u8, right: u8) -> Result<(u8, Option<u64>), Memory> {
+    let arena = Bump::new(alloc);
+    let mut pool = TermPool::new(alloc, &arena);
+    let left = byte(&mut pool, left)?;
+    let right = byte(&mut pool, right)?;
+    let term = pool.add(Node::Bin { op, left, right })?;
+    Ok((pool.width(term), pool.constant(term)))
+}
+
+#[test]
+fn operations_on_constants_are_constants(rt: HostRuntime) -> Result<(), Fail> {
+    let rows = [
+        (BinOp::And, 0xf0, 0xaa, 8, 0xa0),
+        (BinOp::Or, 0xf0, 0x0a, 8, 0xfa),
+        (BinOp::Xor, 0xf0, 0xaa, 8, 0x5a),
+        (BinOp::Add, 3, 4, 8, 7),
+        (BinOp::Add, 200, 100, 8, 44),
+        (BinOp::Sub, 3, 5, 8, 254),
+        (BinOp::Mul, 20, 13, 8, 4),
+        (BinOp::Udiv, 200, 7, 8, 28),
+        (BinOp::Udiv, 200, 0, 8, 255),
+        (BinOp::Urem, 200, 7, 8, 4),
+        (BinOp::Urem, 200, 0, 8, 200),
+        (BinOp::Shl, 0x81, 1, 8, 2),
+        (BinOp::Shl, 1, 8, 8, 0),
+        (BinOp::Lshr, 0x81, 7, 8, 1),
+        (BinOp::Ashr, 165, 3, 8, 244),
+        (BinOp::Ashr, 165, 255, 8, 255),
+        (BinOp::Eq, 5, 5, 1, 1),
+        (BinOp::Ult, 255, 1, 1, 0),
+        (BinOp::Slt, 255, 1, 1, 1),
+        (BinOp::Concat, 1, 2, 16, 0x102),
+    ];
+    for (op, left, right, width, value) in rows {
+        assert_eq!(rt; folded(rt.alloc(), op, left, right)?, (width, Some(value)));
+    }
+    Ok(())
+}
+
+#[test]
+fn other_nodes_on_constants_are_constants(rt: HostRuntime) -> Result<(), Fail> {
+    let arena = Bump::new(rt.alloc());
+    let mut pool = TermPool::new(rt.alloc(), &arena);
+    let bytes = pool.table(&[7, 8, 9])?;
+    let of = byte(&mut pool, 0xa5)?;
+    let one = pool.add(Node::Const { width: 1, value: 1 })?;
+    let turned = pool.add(Node::Not(of))?;
+    assert_eq!(rt; pool.constant(turned), Some(0x5a));
+    let negative = pool.add(Node::Neg(of))?;
+    assert_eq!(rt; pool.constant(negative), Some(0x5b));
+    let middle = pool.add(Node::Extract {
+        of,
+        high: 6,
+        low: 2,
+    })?;
+    assert_eq!(rt; (pool.width(middle), pool.constant(middle)), (5, Some(9)));
+    let wide = pool.add(Node::ZeroExtend { of, width: 16 })?;
+    assert_eq!(rt; (pool.width(wide), pool.constant(wide)), (16, Some(0xa5)));
+    let signed = pool.add(Node::SignExtend { of, width: 16 })?;
+    assert_eq!(rt;
+        (pool.width(signed), pool.constant(signed)),
+        (16, Some(0xffa5))
+    );
+    let choice = pool.add(Node::Ite {
+        when: one,
+        yes: turned,
+        no: of,
+    })?;
+    assert_eq!(rt; choice, turned);
+    let entry = pool.add(Node::ByteSelect {
+        first: 0xa4,
+        bytes,
+        index: of,
+    })?;
+    assert_eq!(rt; pool.constant(entry), Some(8));
+    Ok(())
+}
+
+#[test]
+fn a_node_on_a_variable_is_kept(rt: HostRuntime) -> Result<(), Fail> {
+    let arena = Bump::new(rt.alloc());
+    let mut pool = TermPool::new(rt.alloc(), &arena);
+    let zero = byte(&mut pool, 0)?;
+    let variable = pool.add(Node::Var {
+        width: 8,
+        number: 0,
+    })?;
+    let sum = Node::Bin {
+        op: BinOp::Add,
+        left: variable,
+        right: zero,
+    };
+    let kept = pool.add(sum)?;
+    assert_eq!(rt; pool.node(kept), sum);
+    assert_eq!(rt; pool.constant(kept), None);
     Ok(())
 }

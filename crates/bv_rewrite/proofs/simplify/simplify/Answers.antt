@@ -1,8 +1,17 @@
-use Rattle.bv_rewrite.proofs.Replacing.{can_replace}
+use Rattle.std.proofs.Common.{◌<◌, arith, length, nat_eq, subst, sym}
+use Rattle.indexmap.specs.IndexMap.{get}
+use Rattle.bv_rewrite.specs.Simpler.{StandsFor}
+use Rattle.bv_rewrite.specs.Walks.{standing}
+use Rattle.bv_rewrite.proofs.Walking.{stands, stands_before}
 use Rattle.bv_rewrite.proofs.simplify.simplify.Goals as goal
 
-pub replaced-requires-clause-right : goal.replaced-requires-clause-right
-replaced-requires-clause-right g c =
-    can_replace c.args.pool.now c.args.root.number c.in-Bin.op c.in-Bin.left.number c.in-Bin.right.number c.in-Some.swap
-    (record { inside = c.requires; node = c.in-Bin.ensures.node; fitting = c.in-Bin.ensures.fitting; width = c.in-Bin.ensures.width; value = c.in-Bin.ensures.value })
-    c.in-Some.ensures
+pub returns-clause-term : goal.returns-clause-term
+returns-clause-term g c =
+    let old = c.args.pool.now in
+    let new = c.loop-visit.pool in
+    let root = c.args.root.number in
+    let done = get nat_eq c.loop-visit.done in
+    let kept = c.loop-visit.invariant in
+    let inside : root < length new = omega (arith, c.requires, kept.older.grows) in
+    subst (λ id. StandsFor old new root id) (sym c.stands_for.ensures)
+    (stands_before old new kept.older kept.variables root (standing done root) c.requires (stands new done kept.done root inside))

@@ -10,7 +10,7 @@ use Rattle.bit_clauses.proofs.blaster.Blaster.build_operation.Goals as goal
 pub returns-clause-builds : goal.returns-clause-builds
 returns-clause-builds c =
     let id = c.args.id.number in
-    let b : Bits = record { sure = c.self.inside.yes; variables = c.self.inside.variables.items; terms = c.self.inside.terms.items } in
+    let b : Bits = record { sure = c.self.inside.yes; variables = c.self.inside.variables; terms = c.self.inside.terms.items } in
     let e : c.args.self.now ≡ b = first_of (assumption (c.self.view_is), assumption (sym c.self.view_is), search (c.self.view_is, sym c.self.view_is)) in
     let same : c.as_slice.result.now ≡ c.args.self.now.terms = c.as_slice.ensures.value ∙ ap (λ (x : Bits). x.terms) (sym e) in
     let spells = subst (λ (ts : List (List Lit)). SpellsNode c.args.clauses.now c.node_bits.new.clauses ts c.args.yes (shape_of c.args.node) c.in_ok-out.out) same c.in_ok-out.ensures.spells in

@@ -18,7 +18,7 @@ pub returns-clause-builds : goal.returns-clause-builds
 returns-clause-builds c =
     let id = c.args.id.number in
     let mid = c.variable.new.self in
-    let b : Bits = record { sure = c.self.inside.yes; variables = c.self.inside.variables.items; terms = c.self.inside.terms.items } in
+    let b : Bits = record { sure = c.self.inside.yes; variables = c.self.inside.variables; terms = c.self.inside.terms.items } in
     let e : mid ≡ b = first_of (assumption (c.self.view_is), assumption (sym c.self.view_is), search (c.self.view_is, sym c.self.view_is)) in
     let done = builds_variable c.args.self.now mid c.args.pool.now c.args.clauses.now c.variable.new.clauses id c.args.width c.args.number c.in_ok-first.first
     (λ root inside. c.in_ok-first.ensures.blasted c.args.pool.now root (inside c.args.width c.args.number (Here id c.requires.node)) c.requires.known)

@@ -10,7 +10,7 @@ pub returns-clause-blasted : goal.returns-clause-blasted
 returns-clause-blasted c = λ nodes root of.
     let f = c.args.clauses.now in
     let l : Lit = record { var = c.in_ok-var.var; positive = true } in
-    let b : Bits = record { sure = c.self.inside.yes; variables = c.self.inside.variables.items; terms = c.self.inside.terms.items } in
+    let b : Bits = record { sure = c.self.inside.yes; variables = c.self.inside.variables; terms = c.self.inside.terms.items } in
     let e : c.args.self.now ≡ b = first_of (assumption (c.self.view_is), assumption (sym c.self.view_is), search (c.self.view_is, sym c.self.view_is)) in
     let free : b.sure ≡ None = ap (λ (x : Bits). x.sure) (sym e) ∙ c.requires in
     let grown : c.add.new.self ≡ one_clause f l = c.in_ok-add.ensures.ok ∙ ap (λ (h : Formula). record h { clauses = h.clauses ++ (l ∷ []) ∷ [] }) c.in_ok-var.ensures.ok in

@@ -22,7 +22,7 @@ pub returns-clause-steps : goal.returns-clause-steps
 returns-clause-steps c =
     let id = c.args.id.number in
     let items = c.self.inside.terms.items in
-    let b : Bits = record { sure = c.self.inside.yes; variables = c.self.inside.variables.items; terms = items } in
+    let b : Bits = record { sure = c.self.inside.yes; variables = c.self.inside.variables; terms = items } in
     let e : c.args.self.now ≡ b = first_of (assumption (c.self.view_is), assumption (sym c.self.view_is), search (c.self.view_is, sym c.self.view_is)) in
     let room : id < length items = subst (λ (x : Bits). id < length x.terms) e c.requires.room in
     let read : c.index.result.now ≡ get_or items id [] = get_or_read items id c.index.result.now room c.index.ensures [] in
