@@ -289,7 +289,7 @@ halted_by : (core : Core) (t : ℕ) (reservation : Option ℕ) (o : Outcome) →
 halted_by core t reservation (Faults fault) quiet e = refl
 halted_by core t reservation (Goes local writes shown) quiet e = halt_some t local writes shown quiet e
 
-halted_step : (image : Layout) (state : State) (t : ℕ) → halts (step image state t).note ≡ true → is_none (step image state t).state.core.halt ≡ false
+pub halted_step : (image : Layout) (state : State) (t : ℕ) → halts (step image state t).note ≡ true → is_none (step image state t).state.core.halt ≡ false
 halted_step image state t e =
     let thread : Thread = thread_at state.core t in
     let o : Outcome = outcome_by image (memory_of image state) state.core.calls t thread in

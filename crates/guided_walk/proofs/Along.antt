@@ -155,15 +155,15 @@ pub record GoesOn (image : Layout) (told : Told) (v : Visits) (done : List Pos) 
   pub outcome : (at v (next_of t done)).outcome ≡ Goes local writes shown
   pub shows : shown ≡ noted told (next_of t done)
 
-abbrev Next : ℕ → List Pos → List Pos
+abbrev pub Next : ℕ → List Pos → List Pos
 Next t done = next_of t done ∷ done
 
 -- a thread that the step is not of
 
-count_other : (t u : ℕ) (done : List Pos) → (u ≡ t → ⊥) → count u (Next t done) ≡ count u done
+pub count_other : (t u : ℕ) (done : List Pos) → (u ≡ t → ⊥) → count u (Next t done) ≡ count u done
 count_other t u done ne = ap (λ (b : Bool). cond b (suc (count u done)) (count u done)) (ne_eqb t u (λ (e : t ≡ u). ne (sym e)))
 
-count_own : (t : ℕ) (done : List Pos) → count t (Next t done) ≡ suc (count t done)
+pub count_own : (t : ℕ) (done : List Pos) → count t (Next t done) ≡ suc (count t done)
 count_own t done = ap (λ (b : Bool). cond b (suc (count t done)) (count t done)) (eq-eqb t t refl)
 
 reserved_other : (image : Layout) (v : Visits) (t u : ℕ) (done : List Pos) → (u ≡ t → ⊥)
@@ -182,7 +182,7 @@ reserved_own image v t done =
 
 -- the threads after the step
 
-abbrev thread_with : Local → Option ℕ → ℕ → Thread
+abbrev pub thread_with : Local → Option ℕ → ℕ → Thread
 thread_with local reservation retired = record { local = local; reservation = reservation; retired = retired }
 
 -- the stepping thread
@@ -250,11 +250,11 @@ pub data MakesNext (threads : ℕ) (shown : Note) : Type 0 where
 abbrev Gone : State → ℕ → Option ℕ → Local → List Write → Note → State
 Gone state t reservation local writes shown = (after_effect state (gone state.core t reservation local writes shown)).state
 
-abbrev After : Core → ℕ → Option ℕ → Local → Thread
+abbrev pub After : Core → ℕ → Option ℕ → Local → Thread
 After core t reservation local = thread_with local reservation ((thread_at core t).retired + 1)
 
 -- how many threads there are after the step
-threads_none : (core : Core) (t : ℕ) (reservation : Option ℕ) (local : Local) (writes : List Write) (shown : Note) → child_of (thread_at core t).local shown ≡ []
+pub threads_none : (core : Core) (t : ℕ) (reservation : Option ℕ) (local : Local) (writes : List Write) (shown : Note) → child_of (thread_at core t).local shown ≡ []
     → length (gone core t reservation local writes shown).core.threads ≡ length core.threads
 threads_none core t reservation local writes shown none =
     length-append (set (map (losing writes) core.threads) t (After core t reservation local)) (child_of (thread_at core t).local shown)
@@ -263,7 +263,7 @@ threads_none core t reservation local writes shown none =
     length-set (map (losing writes) core.threads) t (After core t reservation local) ∙ length-map core.threads (losing writes) in
     omega (arith, e, s)
 
-threads_one : (core : Core) (t : ℕ) (reservation : Option ℕ) (local : Local) (writes : List Write) (shown : Note) (entry child : ℕ) → shown ≡ note.Called (call.Spawn entry (Some child))
+pub threads_one : (core : Core) (t : ℕ) (reservation : Option ℕ) (local : Local) (writes : List Write) (shown : Note) (entry child : ℕ) → shown ≡ note.Called (call.Spawn entry (Some child))
     → length (gone core t reservation local writes shown).core.threads ≡ length core.threads + 1
 threads_one core t reservation local writes shown entry child is =
     length-append (set (map (losing writes) core.threads) t (After core t reservation local)) (child_of (thread_at core t).local shown)
@@ -275,7 +275,7 @@ threads_one core t reservation local writes shown entry child is =
 made_one : (c : Calls) (a0 t : ℕ) (shown : Note) (entry child : ℕ) → shown ≡ note.Called (call.Spawn entry (Some child)) → made (calls_then c t a0 shown) ≡ made c + 1
 made_one c a0 t shown entry child is = ap (λ (n : Note). made (calls_then c t a0 n)) is ∙ length_push c.ended None
 
-many_then : (core : Core) (t : ℕ) (reservation : Option ℕ) (local : Local) (writes : List Write) (shown : Note) → MakesNext (length core.threads) shown
+pub many_then : (core : Core) (t : ℕ) (reservation : Option ℕ) (local : Local) (writes : List Write) (shown : Note) → MakesNext (length core.threads) shown
     → length core.threads ≡ made core.calls
     → length (gone core t reservation local writes shown).core.threads ≡ made (gone core t reservation local writes shown).core.calls
 many_then core t reservation local writes shown (MakesOne {entry = entry} {child = child} is next) many =
@@ -285,7 +285,7 @@ many_then core t reservation local writes shown (MakesOne {entry = entry} {child
 many_then core t reservation local writes shown (MakesNone none same) many =
     threads_none core t reservation local writes shown (none (thread_at core t).local) ∙ many ∙ sym (same core.calls (first_argument (thread_at core t).local) t)
 
-more_then : (core : Core) (t : ℕ) (reservation : Option ℕ) (local : Local) (writes : List Write) (shown : Note) → MakesNext (length core.threads) shown
+pub more_then : (core : Core) (t : ℕ) (reservation : Option ℕ) (local : Local) (writes : List Write) (shown : Note) → MakesNext (length core.threads) shown
     → length core.threads ≤ length (gone core t reservation local writes shown).core.threads
 more_then core t reservation local writes shown (MakesOne {entry = entry} {child = child} is next) =
     let e : length (gone core t reservation local writes shown).core.threads ≡ length core.threads + 1 = threads_one core t reservation local writes shown entry child is in omega (arith, e)

@@ -5,3 +5,8 @@ pub mod Along
 pub mod Shared
 pub mod Here
 pub mod Agree
+pub mod Walks
+pub mod Records
+pub mod Facts
+pub mod Logged
+pub mod LoggedRun

@@ -109,7 +109,7 @@ call_alike one other t a b call.SelfId alike = alike
 call_alike one other t a b call.Yield alike = alike
 call_alike one other t a b (call.Unknown number) alike = alike
 
-then_alike : (one other : Calls) (t a b : ℕ) (n : Note) → Alike one other → Alike (calls_then one t a n) (calls_then other t b n)
+pub then_alike : (one other : Calls) (t a b : ℕ) (n : Note) → Alike one other → Alike (calls_then one t a n) (calls_then other t b n)
 then_alike one other t a b (note.Called c) alike = call_alike one other t a b c alike
 then_alike one other t a b note.Nothing alike = alike
 then_alike one other t a b (note.Branch taken) alike = alike
