@@ -10,3 +10,4 @@ pub mod Records
 pub mod Facts
 pub mod Logged
 pub mod LoggedRun
+pub mod Whole

@@ -263,7 +263,7 @@ fault_noted log walk t k fault e at =
     ∙ ap (λ (ended : End). get_or (last_fault ended t) 0 note.Nothing) e
     ∙ ap (λ (b : Bool). get_or (cond b (note.Faulted fault ∷ []) []) 0 note.Nothing) (eq-eqb t t refl)
 
-fault_steps : (log : Log) (walk : Walk) (t : ℕ) (fault : Cause) → log.end ≡ end.Faulted t fault → (told log walk).steps t ≡ length (notes_of walk t) + 1
+pub fault_steps : (log : Log) (walk : Walk) (t : ℕ) (fault : Cause) → log.end ≡ end.Faulted t fault → (told log walk).steps t ≡ length (notes_of walk t) + 1
 fault_steps log walk t fault e =
     length-append (notes_of walk t) (last_fault log.end t)
     ∙ let one : length (last_fault log.end t) ≡ 1 =
@@ -284,7 +284,7 @@ total_own : (told : Told) (done : List Pos) (t : ℕ) (schedule : List ℕ) → 
 total_own told done t schedule total =
     ap (λ (b : Bool). count t done + cond b (suc (times t schedule)) (times t schedule)) (sym (eq-eqb t t refl)) ∙ total t
 
-not_faulted : (n : Note) (local : Local) (writes : List Write) → IsQuiet (Goes local writes n) → (fault : Cause) → n ≡ note.Faulted fault → ⊥
+pub not_faulted : (n : Note) (local : Local) (writes : List Write) → IsQuiet (Goes local writes n) → (fault : Cause) → n ≡ note.Faulted fault → ⊥
 not_faulted n local writes quiet fault e = subst (λ (m : Note). IsQuiet (Goes local writes m)) e quiet
 
 -- nothing is left of the schedule after a halt
@@ -300,6 +300,18 @@ stops image log state happened (t ∷ schedule) halted e =
 pub record StepTold (image : Layout) (log : Log) (walk : Walk) (done : List Pos) (state : State) (t : ℕ) : Type 0 where
   pub note : (step image state t).note ≡ noted (told log walk) (next_of t done)
   pub follows : (halts (noted (told log walk) (next_of t done)) ≡ true) ⊎ Follows image log walk (Next t done) (step image state t).state
+
+-- a spawn that a step makes is of the next thread
+pub makes_by : (image : Layout) (state : State) (t : ℕ) (local : Local) (writes : List Write) (shown : Note) → length state.core.threads ≡ made state.core.calls
+    → outcome_by image (memory_of image state) state.core.calls t (thread_at state.core t) ≡ Goes local writes shown → MakesNext (length state.core.threads) shown
+makes_by image state t local writes shown many same =
+    let thread : Thread = thread_at state.core t in
+    let heard : Heard = heard_by image (memory_of image state) state.core.calls t thread in
+    let asks : asked_noted shown ≡ asked_at thread.local (instr_at image thread.local.pc) heard.reach =
+    ap (λ (o : Outcome). asked_noted (note_in o)) (sym same) ∙ asked_act thread.local (instr_at image thread.local.pc) heard in
+    let answered : reply_to state.core.calls t (asked_noted shown) ≡ reply_noted shown =
+    ap (reply_to state.core.calls t) asks ∙ sym (told_act state.core.calls t thread.local (instr_at image thread.local.pc) heard refl) ∙ ap (λ (o : Outcome). reply_noted (note_in o)) same in
+    subst (λ (n : ℕ). MakesNext n shown) (sym many) (makes_next state.core.calls t shown answered)
 
 step_told : (image : Layout) (log : Log) (walk : Walk) (done : List Pos) (state : State) (t : ℕ) (schedule : List ℕ) (o : Outcome)
     → IsWalk image log walk → CallsFit log → Follows image log walk done state → t < length state.core.threads → Total (told log walk) done (t ∷ schedule)
@@ -322,13 +334,7 @@ step_told image log walk done state t schedule (Goes local writes shown) is fit 
     logged_next log (events_along (told log walk) done) t (thread_at state.core t).retired shown (not_faulted shown local writes quiet) agreed in
     let led : LedOn image log walk done t local shown = led_on image log walk done state t local writes shown is fit follows there leads next in
     let thread : Thread = thread_at state.core t in
-    let heard : Heard = heard_by image (memory_of image state) state.core.calls t thread in
-    let asks : asked_noted shown ≡ asked_at thread.local (instr_at image thread.local.pc) heard.reach =
-    ap (λ (o : Outcome). asked_noted (note_in o)) (sym same) ∙ asked_act thread.local (instr_at image thread.local.pc) heard in
-    let answered : reply_to state.core.calls t (asked_noted shown) ≡ reply_noted shown =
-    ap (reply_to state.core.calls t) asks ∙ sym (told_act state.core.calls t thread.local (instr_at image thread.local.pc) heard refl) ∙ ap (λ (o : Outcome). reply_noted (note_in o)) same in
-    let makes : MakesNext (length state.core.threads) shown =
-    subst (λ (n : ℕ). MakesNext n shown) (sym follows.many) (makes_next state.core.calls t shown answered) in
+    let makes : MakesNext (length state.core.threads) shown = makes_by image state t local writes shown follows.many same in
     record {
       note = step_note image state t ∙ ap note_in same ∙ led.note;
       follows = inr (subst (λ (s : Stepped). Follows image log walk (Next t done) s.state)

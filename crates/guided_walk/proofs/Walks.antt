@@ -5,6 +5,7 @@ use Rattle.std.proofs.lemmas.Option.{none-some, same_Some}
 use Rattle.elf_image.specs.Layout.{Layout}
 use Rattle.rv32_decode.specs.declared.instr.Instr.{Instr}
 use Rattle.odr_log.specs.declared.log.Call.{Call}
+use Rattle.odr_log.specs.declared.log.Cause.{Cause}
 use Rattle.odr_log.specs.declared.log.PathItem.{PathItem}
 use Rattle.odr_log.specs.declared.log.PathItem.TheVariants as item
 use Rattle.rv_model.specs.declared.state.Note.{Note}
@@ -101,6 +102,15 @@ shape pc transfer.Breakpoint (note.Branch false) next e = absurd (none-some next
 shape pc transfer.Breakpoint (note.Jump to) next e = absurd (none-some next e)
 shape pc transfer.Breakpoint (note.Called made) next e = absurd (none-some next e)
 shape pc transfer.Breakpoint (note.Faulted fault) next e = absurd (none-some next e)
+
+-- a fault leads nowhere
+pub fault_shape : (t : Transfer) (fault : Cause) → Shape t (note.Faulted fault) → ⊥
+fault_shape transfer.Next fault e = absurd (let h : note.Faulted fault ≡ note.Nothing = e in cc)
+fault_shape (transfer.Direct target) fault e = absurd (let h : note.Faulted fault ≡ note.Nothing = e in cc)
+fault_shape transfer.Indirect fault e = absurd (let h : note.Faulted fault ≡ note.Jump e.0 = e.1 in cc)
+fault_shape (transfer.Branch target) fault e = absurd (let h : note.Faulted fault ≡ note.Branch e.0 = e.1 in cc)
+fault_shape transfer.Call fault e = absurd (let h : note.Faulted fault ≡ note.Called e.0 = e.1 in cc)
+fault_shape transfer.Breakpoint fault e = e
 
 -- the call of a note
 abbrev pub called : Note → Option Call
