@@ -11,3 +11,4 @@ pub mod Facts
 pub mod Logged
 pub mod LoggedRun
 pub mod Whole
+pub mod WholeLog
