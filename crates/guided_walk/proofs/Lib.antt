@@ -12,3 +12,5 @@ pub mod Logged
 pub mod LoggedRun
 pub mod Whole
 pub mod WholeLog
+pub mod Placing
+pub mod CallOrder
