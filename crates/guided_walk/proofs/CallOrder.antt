@@ -118,18 +118,18 @@ split_call image log walk is fit done p later n made at splits = record {
 
 -- what a step adds to the splitting: nothing, or the next record
 pub data SplitsOn (log : Log) (walk : Walk) (done : List Pos) (p : Pos) (later : List Pos) (n : ℕ) : Type 0 where
-  Quiet : called (noted (told log walk) p) ≡ None → Splits log (p ∷ done) later n → SplitsOn log walk done p later n
-  Calls : {made : Call} → noted (told log walk) p ≡ note.Called made → slice_get log.calls n ≡ Some (rec p.thread p.step made) → Splits log (p ∷ done) later (suc n) → SplitsOn log walk done p later n
+  NoCall : called (noted (told log walk) p) ≡ None → Splits log (p ∷ done) later n → SplitsOn log walk done p later n
+  ACall : {made : Call} → noted (told log walk) p ≡ note.Called made → slice_get log.calls n ≡ Some (rec p.thread p.step made) → Splits log (p ∷ done) later (suc n) → SplitsOn log walk done p later n
 
 splits_by : (image : Layout) (log : Log) (walk : Walk) → IsWalk image log walk → CallsFit log → (done : List Pos) (p : Pos) (later : List Pos) (n : ℕ) → Apart done (p ∷ later)
     → Keeps (RecordedOrder log) (p ∷ later) → Splits log done (p ∷ later) n → (c : Option Call) → called (noted (told log walk) p) ≡ c → SplitsOn log walk done p later n
-splits_by image log walk is fit done p later n apart keeps splits None e = Quiet e (split_quiet image log walk is done p later n e splits)
+splits_by image log walk is fit done p later n apart keeps splits None e = NoCall e (split_quiet image log walk is done p later n e splits)
 splits_by image log walk is fit done p later n apart keeps splits (Some made) e =
     let shows : noted (told log walk) p ≡ note.Called made = called_is (noted (told log walk) p) made e in
     let i : (i : ℕ) × (slice_get log.calls i ≡ Some (rec p.thread p.step made)) = at_among log.calls (rec p.thread p.step made) (place_called image log walk is p made shows) in
     let number : i.0 ≡ n = next_number image log walk is fit done p later n i.0 made apart keeps splits i.1 in
     let at : slice_get log.calls n ≡ Some (rec p.thread p.step made) = ap (slice_get log.calls) (sym number) ∙ i.1 in
-    Calls {made = made} shows at (split_call image log walk is fit done p later n made at splits)
+    ACall {made = made} shows at (split_call image log walk is fit done p later n made at splits)
 
 pub splits_on : (image : Layout) (log : Log) (walk : Walk) → IsWalk image log walk → CallsFit log → (done : List Pos) (p : Pos) (later : List Pos) (n : ℕ) → Apart done (p ∷ later)
     → Keeps (RecordedOrder log) (p ∷ later) → Splits log done (p ∷ later) n → SplitsOn log walk done p later n
@@ -157,9 +157,9 @@ calls_in_order image log walk is fit done (p ∷ later) n distinct apart keeps s
     (λ (m : ℕ) (s : Splits log (p ∷ done) later m). calls_in_order image log walk is fit (p ∷ done) later m distinct.1 (apart_push done p later distinct apart) keeps.1 s) where
   by_step : SplitsOn log walk done p later n → ((m : ℕ) → Splits log (p ∷ done) later m → records_of (map (told_event (told log walk)) later) ≡ drop m log.calls)
       → records_of (map (told_event (told log walk)) (p ∷ later)) ≡ drop n log.calls
-  by_step (Quiet quiet s) again =
+  by_step (NoCall quiet s) again =
       quiet_record (told log walk) p (map (told_event (told log walk)) later) (noted (told log walk) p) refl quiet ∙ again n s
-  by_step (Calls {made = made} shows at s) again =
+  by_step (ACall {made = made} shows at s) again =
       call_record (told log walk) p (map (told_event (told log walk)) later) made shows
       ∙ ap (λ (rs : List CallRec). rec p.thread p.step made ∷ rs) (again (suc n) s)
       ∙ sym (drop_at log.calls n (rec p.thread p.step made) at)

@@ -117,7 +117,7 @@ called_noted image log walk is r has =
 
 -- ---- the spawn that made a thread
 
-made_by_call : (thread : ℕ) (made : Call) → makes thread made ≡ true → (entry : ℕ) × (made ≡ call.Spawn entry (Some thread))
+pub made_by_call : (thread : ℕ) (made : Call) → makes thread made ≡ true → (entry : ℕ) × (made ≡ call.Spawn entry (Some thread))
 made_by_call thread (call.Spawn entry (Some child)) e = (entry, ap (λ (c : ℕ). call.Spawn entry (Some c)) (eqb-true child thread e))
 made_by_call thread (call.Spawn entry None) e = absurd (false≢true e)
 made_by_call thread (call.Exit code) e = absurd (false≢true e)
@@ -169,7 +169,7 @@ maker_is log fit r entry child has e =
 
 -- ---- the end of a thread
 
-ends_by_call : (thread : ℕ) (r : CallRec) (made : Call) → r.call ≡ made → ends thread r ≡ true → (r.call ≡ call.EndThread) × (r.tid ≡ thread)
+pub ends_by_call : (thread : ℕ) (r : CallRec) (made : Call) → r.call ≡ made → ends thread r ≡ true → (r.call ≡ call.EndThread) × (r.tid ≡ thread)
 ends_by_call thread r made is e = by_call made (ap (λ (c : Call). test c) (sym is) ∙ e) is where
   test : Call → Bool
   test call.EndThread = nat_eq r.tid thread
@@ -191,7 +191,7 @@ ends_by_call thread r made is e = by_call made (ap (λ (c : Call). test c) (sym 
   by_call (call.Unknown number) h same = absurd (false≢true h)
 
 -- a thread has no step after its end
-last_once : (notes : List Note) → AllPairs (λ earlier later. is_last earlier ≡ false) notes → (i j : ℕ) → i < j → j < length notes → is_last (get_or notes i note.Nothing) ≡ true → ⊥
+pub last_once : (notes : List Note) → AllPairs (λ earlier later. is_last earlier ≡ false) notes → (i j : ℕ) → i < j → j < length notes → is_last (get_or notes i note.Nothing) ≡ true → ⊥
 last_once notes pairs i j less within e = false≢true (sym (pairs i j note.Nothing less within) ∙ e)
 
 -- two ends of one thread are one

@@ -14,3 +14,5 @@ pub mod Whole
 pub mod WholeLog
 pub mod Placing
 pub mod CallOrder
+pub mod NeedsOrder
+pub mod Standing

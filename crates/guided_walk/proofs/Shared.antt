@@ -141,7 +141,7 @@ push_none (x ∷ xs) zero = refl
 push_none (x ∷ xs) (suc u) = push_none xs u
 
 -- a thread that is ended after a step was ended before it, or the step ended it
-abbrev EndedBy : Calls → ℕ → ℕ → Note → ℕ → ℕ → Type 0
+abbrev pub EndedBy : Calls → ℕ → ℕ → Note → ℕ → ℕ → Type 0
 EndedBy calls t a n u x = (end_value calls u ≡ Some x) ⊎ ((n ≡ note.Called call.EndThread) × (u ≡ t) × (x ≡ a))
 
 end_set : (xs : List (Option ℕ)) (t a u x : ℕ) → (same : Bool) → eqb u t ≡ same → (within : Bool) → ltb t (length xs) ≡ within → get_or (set xs t (Some a)) u None ≡ Some x
@@ -157,7 +157,7 @@ end_set xs t a u x true s false w e =
 end_set xs t a u x false s within w e =
     inl (sym (get_or-set_other xs t u (Some a) None (λ (same : u ≡ t). false≢true (sym s ∙ eq-eqb u t same))) ∙ e)
 
-end_then : (calls : Calls) (t a : ℕ) (n : Note) (u x : ℕ) → end_value (calls_then calls t a n) u ≡ Some x → EndedBy calls t a n u x
+pub end_then : (calls : Calls) (t a : ℕ) (n : Note) (u x : ℕ) → end_value (calls_then calls t a n) u ≡ Some x → EndedBy calls t a n u x
 end_then calls t a (note.Called call.EndThread) u x e =
     elim (end_set calls.ended t a u x (eqb u t) refl (ltb t (length calls.ended)) refl e) [ inl was ↦ inl was | inr now ↦ inr (refl, now.0, now.1) ]
 end_then calls t a (note.Called (call.Spawn entry (Some child))) u x e = inl (sym (push_none calls.ended u) ∙ e)
@@ -182,7 +182,7 @@ end_then calls t a (note.Branch taken) u x e = inl e
 end_then calls t a (note.Jump target) u x e = inl e
 end_then calls t a (note.Faulted fault) u x e = inl e
 
-none_first : (u x : ℕ) → get_or (None ∷ []) u None ≡ Some x → ⊥
+pub none_first : (u x : ℕ) → get_or (None ∷ []) u None ≡ Some x → ⊥
 none_first zero x e = none-some x e
 none_first (suc u) x e = none-some x e
 
