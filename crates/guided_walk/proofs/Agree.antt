@@ -36,7 +36,7 @@ use Rattle.guided_walk.specs.Told.{Told, IsPlace, noted}
 use Rattle.guided_walk.specs.Guided.{Given, Seen, Visit, Visits, at, instr_of, access_in, conditional_in, seen_before, visit, IsGuided, Guided}
 use Rattle.guided_walk.specs.Orders.{In, Distinct}
 use Rattle.guided_walk.specs.Schedules.{count, next_of, places_after, places}
-use Rattle.guided_walk.specs.Fits.{reads_in, read_count, conditional_by, byte_address, writes_along, memory_along, reserved, FitsVisit, FitsAlong, Fits}
+use Rattle.guided_walk.specs.Fits.{reads_in, read_count, conditional_by, byte_address, writes_along, memory_along, reserved, FitsVisit, FitsAlong, Fits, Explained}
 use Rattle.guided_walk.specs.Along.{walk_along}
 use Rattle.guided_walk.specs.Run.{calls_along, value_of, thread_along, halts, record_calls, SuitsAt, Suits, Agrees}
 use Rattle.guided_walk.proofs.Table.{same_pos, Settled, Solves, apart_none, walk_solves}
@@ -371,12 +371,6 @@ agrees_fits image told given tape v done state (t ∷ schedule) sound inv looks 
       (looks_on image given state done t schedule distinct looks) distinct.1 (λ (q : Pos) (i : In q (places_after (p ∷ done) schedule)). only q (inr i))
       (λ (q : Pos) (i : In q (places_after (p ∷ done) schedule)). solves q (inr i)) agrees.2) in
     ((here, rest.0), shows_cons told v p (places_after (p ∷ done) schedule) shows rest.1)
-
-pub record Explained (image : Layout) (told : Told) (schedule : List ℕ) : Type 0 where
-  pub given : Given
-  pub visits : Visits
-  pub guided : IsGuided image told given visits
-  pub fits : Fits image given visits schedule
 
 abbrev nothing_seen : Visits
 nothing_seen t step = record { seen = record { local = no_thread.local; link = None }; outcome = Faults cause.Illegal }

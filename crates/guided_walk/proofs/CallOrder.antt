@@ -49,7 +49,7 @@ calls_ordered image log walk is m n r s p q less =
       edge = ByCalls (record { made = r.call; is = p }) (record { made = s.call; is = q }) less;
     })
 
-drop_at : (xs : List CallRec) (n : ℕ) (r : CallRec) → slice_get xs n ≡ Some r → drop n xs ≡ r ∷ drop (suc n) xs
+pub drop_at : (xs : List CallRec) (n : ℕ) (r : CallRec) → slice_get xs n ≡ Some r → drop n xs ≡ r ∷ drop (suc n) xs
 drop_at [] n r e = absurd (none-some r e)
 drop_at (x ∷ xs) zero r e = ap (λ (y : CallRec). y ∷ xs) (same_Some x r e)
 drop_at (x ∷ xs) (suc n) r e = drop_at xs n r e

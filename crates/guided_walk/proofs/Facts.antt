@@ -32,7 +32,7 @@ use Rattle.guided_walk.proofs.Records.{Among, among_at, at_among, among_filter, 
 -- ---- a thread's notes
 
 -- the notes of a thread that the log hasn't are none
-past_notes : (image : Layout) (log : Log) (walk : Walk) → IsWalk image log walk → (u : ℕ) → length log.threads ≤ u → notes_of walk u ≡ []
+pub past_notes : (image : Layout) (log : Log) (walk : Walk) → IsWalk image log walk → (u : ℕ) → length log.threads ≤ u → notes_of walk u ≡ []
 past_notes image log walk is u past = get_or_past walk.notes u [] (omega (arith, is.notes, past))
 
 -- a step of a thread is one of a thread of the log

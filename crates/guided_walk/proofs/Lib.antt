@@ -16,3 +16,4 @@ pub mod Placing
 pub mod CallOrder
 pub mod NeedsOrder
 pub mod Standing
+pub mod ScheduleLaw

@@ -34,17 +34,18 @@ use Rattle.guided_walk.specs.Told.{Told, told, place_of, IsPlace, noted}
 use Rattle.guided_walk.specs.Orders.{In, Keeps, Distinct}
 use Rattle.guided_walk.specs.Schedules.{count, next_of, places_after, places}
 use Rattle.guided_walk.specs.Flow.{Needs, NeedsThread}
+use Rattle.guided_walk.specs.Ordered.{IsExit, ExitLast}
 use Rattle.guided_walk.specs.Run.{calls_along, halts, record_calls, SuitsAt, Suits}
 use Rattle.guided_walk.proofs.Along.{Next, count_own, count_other}
 use Rattle.guided_walk.proofs.Table.{Settled, Apart, apart_push}
 use Rattle.guided_walk.proofs.Shared.{end_then, none_first}
 use Rattle.guided_walk.proofs.Walks.{called, called_is}
 use Rattle.guided_walk.proofs.Records.{Among, rec}
-use Rattle.guided_walk.proofs.Facts.{in_log, noted_step, call_counted, called_noted, maker_is, last_once}
+use Rattle.guided_walk.proofs.Facts.{in_log, noted_step, call_counted, place_called, called_noted, maker_is, last_once}
 use Rattle.guided_walk.proofs.Logged.{Built}
-use Rattle.guided_walk.proofs.Whole.{FaultHere, place_kind}
-use Rattle.guided_walk.proofs.CallOrder.{Splits, SplitsOn, NoCall, ACall, splits_on}
-use Rattle.guided_walk.proofs.NeedsOrder.{MadeBy, made_by}
+use Rattle.guided_walk.proofs.Whole.{FaultHere, place_kind, not_fault}
+use Rattle.guided_walk.proofs.CallOrder.{Splits, SplitsOn, NoCall, ACall, splits_on, drop_at}
+use Rattle.guided_walk.proofs.NeedsOrder.{MadeBy, made_by, among_contains}
 
 -- ---- threads that were made
 
@@ -253,3 +254,95 @@ abbrev pub FaultLast : Log → Walk → List Pos → Type 0
 FaultLast log walk [] = Unit {0}
 FaultLast log walk (p ∷ later) = (FaultHere log walk p → later ≡ []) × FaultLast log walk later
 
+
+-- ---- along the schedule
+
+quiet_then : (calls : Calls) (t : ℕ) (n : Note) → called n ≡ None → calls_then calls t 0 n ≡ calls
+quiet_then calls t (note.Called made) e = absurd (none-some made (sym e))
+quiet_then calls t note.Nothing e = refl
+quiet_then calls t (note.Branch taken) e = refl
+quiet_then calls t (note.Jump target) e = refl
+quiet_then calls t (note.Faulted fault) e = refl
+
+-- a step behind which nothing stands, where it halts
+halt_last : (image : Layout) (log : Log) (walk : Walk) → IsWalk image log walk → (p : Pos) (later : List Pos) → IsPlace (told log walk) p
+    → (FaultHere log walk p → later ≡ []) → (IsExit log p → later ≡ []) → (n : Note) → noted (told log walk) p ≡ n → halts n ≡ true → later ≡ []
+halt_last image log walk is p later place faults exits (note.Called (call.Exit code)) e h =
+    exits (code, among_contains log.calls (rec p.thread p.step (call.Exit code)) (place_called image log walk is p (call.Exit code) e))
+halt_last image log walk is p later place faults exits (note.Faulted fault) e h = elim (place_kind log walk p place) [
+      inl within ↦ absurd (not_fault image log walk is p.thread p.step within fault (sym (noted_step log walk p within) ∙ e))
+    | inr here ↦ faults here
+    ]
+halt_last image log walk is p later place faults exits note.Nothing e h = absurd (false≢true h)
+halt_last image log walk is p later place faults exits (note.Branch taken) e h = absurd (false≢true h)
+halt_last image log walk is p later place faults exits (note.Jump target) e h = absurd (false≢true h)
+halt_last image log walk is p later place faults exits (note.Called call.EndThread) e h = absurd (false≢true h)
+halt_last image log walk is p later place faults exits (note.Called (call.Spawn entry child)) e h = absurd (false≢true h)
+halt_last image log walk is p later place faults exits (note.Called (call.Join target ok)) e h = absurd (false≢true h)
+halt_last image log walk is p later place faults exits (note.Called (call.Lock mutex ok)) e h = absurd (false≢true h)
+halt_last image log walk is p later place faults exits (note.Called (call.Unlock mutex ok)) e h = absurd (false≢true h)
+halt_last image log walk is p later place faults exits (note.Called (call.TryLock mutex got)) e h = absurd (false≢true h)
+halt_last image log walk is p later place faults exits (note.Called (call.Write bytes)) e h = absurd (false≢true h)
+halt_last image log walk is p later place faults exits (note.Called call.WriteBad) e h = absurd (false≢true h)
+halt_last image log walk is p later place faults exits (note.Called (call.Read want bytes)) e h = absurd (false≢true h)
+halt_last image log walk is p later place faults exits (note.Called call.ReadBad) e h = absurd (false≢true h)
+halt_last image log walk is p later place faults exits (note.Called call.SelfId) e h = absurd (false≢true h)
+halt_last image log walk is p later place faults exits (note.Called call.Yield) e h = absurd (false≢true h)
+halt_last image log walk is p later place faults exits (note.Called (call.Unknown number)) e h = absurd (false≢true h)
+
+-- what is known of the steps to come
+pub record ToCome (log : Log) (walk : Walk) (done ps : List Pos) : Type 0 where
+  pub distinct : Distinct ps
+  pub apart : Apart done ps
+  pub keeps : Keeps (RecordedOrder log) ps
+  pub settled : Settled (told log walk) done ps
+  pub only : (p : Pos) → In p ps → IsPlace (told log walk) p
+  pub faults : FaultLast log walk ps
+  pub exits : ExitLast log ps
+
+to_come_on : (log : Log) (walk : Walk) (done : List Pos) (p : Pos) (later : List Pos) → ToCome log walk done (p ∷ later) → ToCome log walk (p ∷ done) later
+to_come_on log walk done p later come = record {
+  distinct = come.distinct.1;
+  apart = apart_push done p later come.distinct come.apart;
+  keeps = come.keeps.1;
+  settled = come.settled.1;
+  only = λ (q : Pos) (i : In q later). come.only q (inr i);
+  faults = come.faults.1;
+  exits = come.exits.1;
+}
+
+-- one step, with the rest handed in
+suits_step : (image : Layout) (log : Log) (walk : Walk) (tape : List ℕ) (done : List Pos) (t : ℕ) (later : List Pos) (n : ℕ) → IsWalk image log walk → CallsFit log
+    → Threads (told log walk) tape done → Built done → ToCome log walk done (next_of t done ∷ later) → Pass (record_calls (told log walk) tape done) (drop n log.calls)
+    → SplitsOn log walk done (next_of t done) later n
+    → ((m : ℕ) → SuitsAt (told log walk) (record_calls (told log walk) tape done) (next_of t done) → Splits log (Next t done) later m
+        → Pass (record_calls (told log walk) tape (Next t done)) (drop m log.calls) → Suits (told log walk) tape (Next t done) later)
+    → Suits (told log walk) tape done (next_of t done ∷ later)
+suits_step image log walk tape done t later n is fit threads built come pass (NoCall quiet s) again =
+    let p : Pos = next_of t done in
+    let calls : Calls = record_calls (told log walk) tape done in
+    let place : IsPlace (told log walk) p = come.only p (inl refl) in
+    let suits : SuitsAt (told log walk) calls p = suits_quiet image log walk tape done t is fit threads built place come.settled.0 quiet in
+    (suits,
+     λ (e : halts (noted (told log walk) p) ≡ true). halt_last image log walk is p later place come.faults.0 come.exits.0 (noted (told log walk) p) refl e,
+     again n suits s (subst (λ (c : Calls). Pass c (drop n log.calls)) (sym (quiet_then calls t (noted (told log walk) p) quiet)) pass))
+suits_step image log walk tape done t later n is fit threads built come pass (ACall {made = made} shows at s) again =
+    let p : Pos = next_of t done in
+    let calls : Calls = record_calls (told log walk) tape done in
+    let place : IsPlace (told log walk) p = come.only p (inl refl) in
+    let here : Pass calls (rec p.thread p.step made ∷ drop (suc n) log.calls) = subst (Pass calls) (drop_at log.calls n (rec p.thread p.step made) at) pass in
+    let suits : SuitsAt (told log walk) calls p = suits_call log walk calls p made (drop (suc n) log.calls) place shows here in
+    (suits,
+     λ (e : halts (noted (told log walk) p) ≡ true). halt_last image log walk is p later place come.faults.0 come.exits.0 (noted (told log walk) p) refl e,
+     again (suc n) suits s (subst (λ (m : Note). Pass (calls_then calls t 0 m) (drop (suc n) log.calls)) (sym shows) here.1))
+
+pub suits_along : (image : Layout) (log : Log) (walk : Walk) (tape : List ℕ) (done : List Pos) (schedule : List ℕ) (n : ℕ) → IsWalk image log walk → CallsFit log
+    → Threads (told log walk) tape done → Built done → ToCome log walk done (places_after done schedule) → Splits log done (places_after done schedule) n
+    → Pass (record_calls (told log walk) tape done) (drop n log.calls) → Suits (told log walk) tape done (places_after done schedule)
+suits_along image log walk tape done [] n is fit threads built come splits pass = tt
+suits_along image log walk tape done (t ∷ schedule) n is fit threads built come splits pass =
+    let p : Pos = next_of t done in
+    let later : List Pos = places_after (Next t done) schedule in
+    suits_step image log walk tape done t later n is fit threads built come pass (splits_on image log walk is fit done p later n come.apart come.keeps splits)
+    (λ (m : ℕ) (suits : SuitsAt (told log walk) (record_calls (told log walk) tape done) p) (s : Splits log (p ∷ done) later m) (rest : Pass (record_calls (told log walk) tape (p ∷ done)) (drop m log.calls)).
+      suits_along image log walk tape (Next t done) schedule m is fit (threads_on (told log walk) tape done p threads suits) (refl, built) (to_come_on log walk done p later come) s rest)

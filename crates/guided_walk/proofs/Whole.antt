@@ -214,7 +214,7 @@ fault_same t f g e = cc
 note_fault : (f g : Cause) → note.Faulted f ≡ note.Faulted g → f ≡ g
 note_fault f g e = cc
 
-not_fault : (image : Layout) (log : Log) (walk : Walk) → IsWalk image log walk → (t k : ℕ) → k < length (notes_of walk t) → (fault : Cause) → get_or (notes_of walk t) k note.Nothing ≡ note.Faulted fault → ⊥
+pub not_fault : (image : Layout) (log : Log) (walk : Walk) → IsWalk image log walk → (t k : ℕ) → k < length (notes_of walk t) → (fault : Cause) → get_or (notes_of walk t) k note.Nothing ≡ note.Faulted fault → ⊥
 not_fault image log walk is t k within fault e =
     let tw : ThreadWalk image log t (places_of walk t) (notes_of walk t) = is.each t (in_log image log walk is t k within) in
     let pc : ℕ = pc_from (places_of walk t) tw.after k in

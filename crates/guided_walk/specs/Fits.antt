@@ -15,7 +15,8 @@ use Rattle.rv_model.specs.declared.hearing.Outcome.TheVariants.{Faults, Goes}
 use Rattle.rv_model.specs.Thread.{surviving}
 use Rattle.rv_model.specs.Instruction.{reserving_at, wins}
 use Rattle.rv_model.specs.Noted.{writes_in}
-use Rattle.guided_walk.specs.Guided.{Given, Visits, Visit, at, instr_of, access_in, conditional_in}
+use Rattle.guided_walk.specs.Told.{Told}
+use Rattle.guided_walk.specs.Guided.{Given, Visits, Visit, at, IsGuided, instr_of, access_in, conditional_in}
 use Rattle.guided_walk.specs.Schedules.{places}
 
 -- the writes of steps, the newest first; of the steps too the newest stands first
@@ -79,3 +80,10 @@ FitsAlong image given visits done (p ∷ later) =
 -- store-conditional succeeds as the reservations along the schedule have it.
 abbrev pub Fits : Layout → Given → Visits → List ℕ → Type 0
 Fits image given visits schedule = FitsAlong image given visits [] (places schedule)
+
+-- a schedule is explained by one guided walk that fits it
+pub record Explained (image : Layout) (told : Told) (schedule : List ℕ) : Type 0 where
+  pub given : Given
+  pub visits : Visits
+  pub guided : IsGuided image told given visits
+  pub fits : Fits image given visits schedule

@@ -2,9 +2,15 @@
 use Rattle.std.specs.Prelude.{◌≡◌, ◌↔◌, ℕ, Bool, true, List}
 use Rattle.elf_image.specs.Layout.{Layout}
 use Rattle.odr_log.specs.declared.log.Pos.{Pos}
-use Rattle.guided_walk.specs.Told.{Told, IsPlace}
+use Rattle.odr_log.specs.declared.log.Log.{Log}
+use Rattle.rv_model.specs.Run.{HasLog}
+use Rattle.rv_model.specs.Walk.{Walk, IsWalk}
+use Rattle.rv_model.specs.CallsFit.{CallsFit}
+use Rattle.guided_walk.specs.Told.{Told, told, IsPlace}
 use Rattle.guided_walk.specs.Guided.{Given, Visits, at, IsGuided, Guided}
 use Rattle.guided_walk.specs.Orders.{In, Keeps, Lists}
+use Rattle.guided_walk.specs.Fits.{Explained}
+use Rattle.guided_walk.specs.Woven.{Woven}
 use Rattle.guided_walk.specs.Along.{walk_along, HoldsAlong, HasNeeds}
 
 abbrev pub holds : (Pos → Pos → Bool) → Pos → Pos → Type 0
@@ -24,3 +30,8 @@ TableLaw = (image : Layout) (told : Told) (given : Given) (before : Pos → Pos 
     → HasNeeds told (holds before) → Lists (IsPlace told) steps → Keeps (holds before) steps
     → (HoldsAlong image told given steps start ↔ Guided image told given)
     × ((visits : Visits) → IsGuided image told given visits → (p : Pos) → IsPlace told p → at visits p ≡ at (walk_along image told given steps start) p)
+
+-- A schedule that is woven has the log exactly where one guided walk fits it.
+abbrev pub ScheduleLaw : Type 0
+ScheduleLaw = (image : Layout) (log : Log) (walk : Walk) (pairs : List (Pos × Pos)) (schedule : List ℕ) → log.version ≡ 1 → IsWalk image log walk → CallsFit log
+    → Woven log pairs schedule → HasLog image log schedule ↔ Explained image (told log walk) schedule
