@@ -1,0 +1,11 @@
+pub mod Told
+pub mod Guided
+pub mod Orders
+pub mod Schedules
+pub mod Fits
+pub mod Flow
+pub mod Ordered
+pub mod Woven
+pub mod Along
+pub mod Law
+pub mod Run
