@@ -1,7 +1,7 @@
 -- What an instruction does depends on what it hears as its outcome shows: on the bytes of its access where it read them, on
 -- a store-conditional's success where it took place, on a join's value where it joined.
-use Rattle.std.specs.Prelude.{◌≡◌, ℕ, ◌*◌, ◌/◌, ◌⊎◌, Bool, true, false, cond, List, [], ◌∷◌, nat_eq, Option, Some, None, is_some, Result, Ok, Err, refl}
-use Rattle.std.proofs.Common.{sym, ◌∙◌, ap, subst, inl, inr}
+use Rattle.std.specs.Prelude.{◌≡◌, ℕ, ◌⊎◌, Bool, true, false, cond, List, [], nat_eq, Option, Some, None, is_some, Result, Ok, Err, refl}
+use Rattle.std.proofs.Common.{sym, ◌∙◌, ap, inl, inr}
 use Rattle.std.proofs.lemmas.Bool.{false≢true}
 use Rattle.elf_image.specs.declared.write.Write.{Write}
 use Rattle.elf_image.specs.Memory.{bytes_of, number_of, writes_of}
@@ -12,26 +12,20 @@ use Rattle.odr_log.specs.declared.log.Cause.TheVariants as cause
 use Rattle.odr_log.specs.declared.log.Call.{Call}
 use Rattle.odr_log.specs.declared.log.Call.TheVariants as call
 use Rattle.rv_model.specs.declared.state.Local.{Local}
-use Rattle.rv_model.specs.declared.state.Calls.{Calls}
-use Rattle.rv_model.specs.declared.state.Note.{Note}
 use Rattle.rv_model.specs.declared.state.Note.TheVariants as note
-use Rattle.rv_model.specs.declared.hearing.Reach.{Reach}
 use Rattle.rv_model.specs.declared.hearing.Reply.{Reply}
 use Rattle.rv_model.specs.declared.hearing.Heard.{Heard}
 use Rattle.rv_model.specs.declared.hearing.Kind.{Kind}
 use Rattle.rv_model.specs.declared.hearing.Kind.TheVariants as kind
-use Rattle.rv_model.specs.declared.hearing.Asked.{Asked}
-use Rattle.rv_model.specs.declared.hearing.Asked.TheVariants as asked
 use Rattle.rv_model.specs.declared.hearing.Outcome.{Outcome}
 use Rattle.rv_model.specs.declared.hearing.Outcome.TheVariants.{Faults, Goes}
-use Rattle.rv_model.specs.Values.{plus_offset, taken_of, extended, amo_of}
-use Rattle.rv_model.specs.Thread.{register, with_register, next_pc, onward, gone_to}
-use Rattle.rv_model.specs.Calls.{no_reply, says, kind_by, kind_at, writing, fits_buffer, number_of_call, first_argument, second_argument, asked_of, asked_in, reply_to, record_of}
-use Rattle.rv_model.specs.Instruction.{act, act_at, asked_by, asked_at, conditional_of, conditional_at, is_aligned, may_amo, word_in, branches, jumps, loads, atomically, calls_out}
-use Rattle.rv_model.specs.CallsFit.{reply_in}
+use Rattle.rv_model.specs.Values.{extended, amo_of}
+use Rattle.rv_model.specs.Thread.{register, with_register, onward}
+use Rattle.rv_model.specs.Calls.{kind_by, kind_at, fits_buffer, number_of_call, first_argument, second_argument, record_of}
+use Rattle.rv_model.specs.Instruction.{act, act_at, conditional_of, conditional_at, may_amo, loads, calls_out}
 use Rattle.rv_model.specs.Noted.{note_in}
 use Rattle.guided_walk.specs.Guided.{joins}
-use Rattle.guided_walk.specs.Fits.{has_read, reads_in, conditional_by}
+use Rattle.guided_walk.specs.Fits.{reads_in, conditional_by}
 
 -- ---- the same hearing with one part changed
 

@@ -1,13 +1,11 @@
 -- A schedule whose steps can stand where they do runs along a guided walk that fits it; and where its run notes what is
 -- recorded, a guided walk fits it.
-use Rattle.std.specs.Prelude.{◌≡◌, ◌↔◌, ℕ, zero, suc, ◌+◌, ◌<◌, ◌⊎◌, ◌&&◌, Bool, true, false, not, cond, List, [], ◌∷◌, length, nat_eq, nat_lt, Option, Some, None, is_none, Result, Ok, Err, refl}
+use Rattle.std.specs.Prelude.{◌≡◌, ℕ, ◌<◌, ◌&&◌, Bool, true, false, not, cond, List, [], ◌∷◌, length, nat_eq, Option, Some, None, is_none, refl}
 use Rattle.std.proofs.Common.{sym, ◌∙◌, ap, subst, arith, inl, inr, eq-eqb, eqb-true}
-use Rattle.std.proofs.lemmas.Bool.{and_parts, and_from, lt-ltb, ltb-true, false≢true}
-use Rattle.std.proofs.lemmas.Option.{none-some, same_Some}
+use Rattle.std.proofs.lemmas.Bool.{and_parts, and_from, lt-ltb, false≢true}
 use Rattle.elf_image.specs.declared.write.Write.{Write}
 use Rattle.elf_image.specs.Layout.{Layout}
 use Rattle.elf_image.specs.Memory.{Cells, opening_cells, cells_after, byte_in}
-use Rattle.odr_log.specs.declared.log.Cause.{Cause}
 use Rattle.odr_log.specs.declared.log.Cause.TheVariants as cause
 use Rattle.odr_log.specs.declared.log.Call.TheVariants as call
 use Rattle.odr_log.specs.declared.log.Pos.{Pos}
@@ -15,34 +13,32 @@ use Rattle.rv_model.specs.declared.state.Local.{Local}
 use Rattle.rv_model.specs.declared.state.Thread.{Thread}
 use Rattle.rv_model.specs.declared.state.Calls.{Calls}
 use Rattle.rv_model.specs.declared.state.Core.{Core}
-use Rattle.rv_model.specs.declared.state.Halt.{Halt}
 use Rattle.rv_model.specs.declared.state.Note.{Note}
 use Rattle.rv_model.specs.declared.state.Note.TheVariants as note
 use Rattle.rv_model.specs.declared.state.State.{State}
 use Rattle.rv_model.specs.declared.state.Stepped.{Stepped}
 use Rattle.rv_model.specs.declared.hearing.Asked.{Asked}
-use Rattle.rv_model.specs.declared.hearing.Reach.{Reach}
 use Rattle.rv_model.specs.declared.hearing.Outcome.{Outcome}
 use Rattle.rv_model.specs.declared.hearing.Outcome.TheVariants.{Faults, Goes}
 use Rattle.rv_model.specs.Thread.{no_thread}
 use Rattle.rv_model.specs.Calls.{made, end_value, waits, reply_to}
-use Rattle.rv_model.specs.Instruction.{act_at, access_at, asked_at, conditional_at, wins}
+use Rattle.rv_model.specs.Instruction.{access_at, asked_at, conditional_at, wins}
 use Rattle.rv_model.specs.Noted.{note_in, asked_noted, reply_noted}
 use Rattle.rv_model.specs.Step.{opening, memory_of, instr_at, reach_of, thread_at, halt_then, applied, after_effect, step, is_enabled}
 use Rattle.rv_model.proofs.Progress.{raw_enabled, IsQuiet, quiet-act_at}
 use Rattle.rv_model.proofs.Difference.{enabled_within, enabled_goes}
-use Rattle.rv_model.proofs.Acts.{asked_act, told_act}
+use Rattle.rv_model.proofs.Acts.{asked_act}
 use Rattle.guided_walk.specs.Told.{Told, IsPlace, noted}
-use Rattle.guided_walk.specs.Guided.{Given, Seen, Visit, Visits, at, instr_of, access_in, conditional_in, seen_before, visit, IsGuided, Guided}
+use Rattle.guided_walk.specs.Guided.{Given, Seen, Visit, Visits, at, instr_of, access_in, conditional_in, visit, IsGuided}
 use Rattle.guided_walk.specs.Orders.{In, Distinct}
 use Rattle.guided_walk.specs.Schedules.{count, next_of, places_after, places}
-use Rattle.guided_walk.specs.Fits.{reads_in, read_count, conditional_by, byte_address, writes_along, memory_along, reserved, FitsVisit, FitsAlong, Fits, Explained}
+use Rattle.guided_walk.specs.Fits.{read_count, conditional_by, byte_address, memory_along, reserved, FitsVisit, FitsAlong, Explained}
 use Rattle.guided_walk.specs.Along.{walk_along}
 use Rattle.guided_walk.specs.Run.{calls_along, value_of, thread_along, halts, record_calls, SuitsAt, Suits, Agrees}
 use Rattle.guided_walk.proofs.Table.{same_pos, Settled, Solves, apart_none, walk_solves}
 use Rattle.guided_walk.proofs.Along.{Sound, Inv, GoesOn, MakesNext, heard_by, outcome_by, reserving_by, step_is, inv_opening, inv_step}
-use Rattle.guided_walk.proofs.Shared.{Alike, along_alike, suits_alike, makes_next}
-use Rattle.guided_walk.proofs.Here.{SeenHere, heard_here, told_here, asked_same, conditional_was, walk_outcome, run_answered, run_outcome}
+use Rattle.guided_walk.proofs.Shared.{along_alike, suits_alike, makes_next}
+use Rattle.guided_walk.proofs.Here.{SeenHere, told_here, asked_same, conditional_was, walk_outcome, run_answered, run_outcome}
 
 -- ---- the machine's step by its outcome
 
@@ -144,44 +140,47 @@ guided_agrees image told given tape v done state (t ∷ schedule) sound guided i
     ∙ ap (λ (x : Visit). asked_noted (note_in x.outcome)) (sym solves) ∙ ap asked_noted shows in
     let enabled : is_enabled image state t ≡ true =
     enabled_here image told tape v done state t (asked_noted (noted told p)) inv running here.exists here.live here.ready asks in
-    let notes : (step image state t).note ≡ noted told p = step_note image state t ∙ ap note_in outcome ∙ shows in
-    (enabled, notes, on image told given tape v done state t schedule sound guided inv there here suits fits solves outcome shows (halts (noted told p)) refl
-      (guided_agrees image told given tape v (p ∷ done) (step image state t).state schedule sound guided)) where
-  on : (image : Layout) (told : Told) (given : Given) (tape : List ℕ) (v : Visits) (done : List Pos) (state : State) (t : ℕ) (schedule : List ℕ)
-      → Sound told → IsGuided image told given v → Inv image told tape v done state → t < length state.core.threads
-      → SuitsAt told (calls_along told (value_of v) tape done) (next_of t done)
-      → Suits told tape done (places_after done (t ∷ schedule)) → FitsAlong image given v done (places_after done (t ∷ schedule))
-      → at v (next_of t done) ≡ visit image told given v t (count t done)
-      → outcome_by image (memory_of image state) state.core.calls t (thread_at state.core t) ≡ (at v (next_of t done)).outcome
-      → note_in (at v (next_of t done)).outcome ≡ noted told (next_of t done)
-      → (b : Bool) → halts (noted told (next_of t done)) ≡ b
-      → (Inv image told tape v (next_of t done ∷ done) (step image state t).state → (step image state t).state.core.halt ≡ None
+    let notes : (step image state t).note ≡ noted told p = step_note image state t ∙ ap note_in outcome ∙ shows in (
+      enabled,
+      notes,
+      on image told given tape v done state t schedule sound guided inv there here suits fits solves outcome shows (halts (noted told p)) refl
+          (guided_agrees image told given tape v (p ∷ done) (step image state t).state schedule sound guided),
+    ) where
+      on : (image : Layout) (told : Told) (given : Given) (tape : List ℕ) (v : Visits) (done : List Pos) (state : State) (t : ℕ) (schedule : List ℕ)
+          → Sound told → IsGuided image told given v → Inv image told tape v done state → t < length state.core.threads
+          → SuitsAt told (calls_along told (value_of v) tape done) (next_of t done)
+          → Suits told tape done (places_after done (t ∷ schedule)) → FitsAlong image given v done (places_after done (t ∷ schedule))
+          → at v (next_of t done) ≡ visit image told given v t (count t done)
+          → outcome_by image (memory_of image state) state.core.calls t (thread_at state.core t) ≡ (at v (next_of t done)).outcome
+          → note_in (at v (next_of t done)).outcome ≡ noted told (next_of t done)
+          → (b : Bool) → halts (noted told (next_of t done)) ≡ b
+          → (Inv image told tape v (next_of t done ∷ done) (step image state t).state → (step image state t).state.core.halt ≡ None
           → Suits told tape (next_of t done ∷ done) (places_after (next_of t done ∷ done) schedule)
           → FitsAlong image given v (next_of t done ∷ done) (places_after (next_of t done ∷ done) schedule)
           → Agrees image told (step image state t).state (next_of t done ∷ done) schedule)
-      → Agrees image told (step image state t).state (next_of t done ∷ done) schedule
-  on image told given tape v done state t schedule sound guided inv there here suits fits solves outcome shows true e again =
-      let p : Pos = next_of t done in
-      let ended : schedule ≡ [] = none_after (p ∷ done) schedule (suits.1 e) in
-      subst (λ (s : List ℕ). Agrees image told (step image state t).state (p ∷ done) s) (sym ended) tt
-  on image told given tape v done state t schedule sound guided inv there here suits fits solves outcome shows false e again =
-      let p : Pos = next_of t done in
-      let g : Goer (at v p).outcome = goer (at v p).outcome (ap halts shows ∙ e) in
-      let shown_is : g.shown ≡ noted told p = ap note_in (sym g.is) ∙ shows in
-      let goes : GoesOn image told v done t g.local g.writes g.shown = record {
-        place = here.place;
-        seen = ap (λ (x : Visit). x.seen) solves;
-        outcome = g.is;
-        shows = shown_is;
-      } in
-      let makes : MakesNext (length state.core.threads) g.shown =
-      subst (λ (n : ℕ). MakesNext n g.shown) (sym (inv.many ∙ ap made inv.calls))
-      (subst (λ (n : Note). MakesNext (made (calls_along told (value_of v) tape done)) n) (sym shown_is)
-      (makes_next (calls_along told (value_of v) tape done) t (noted told p) here.answered)) in
-      again
-      (inv_step image told tape v done state t g.local g.writes g.shown sound inv there goes makes (outcome ∙ g.is))
-      (step_goes image state t g.local g.writes g.shown (outcome ∙ g.is) (ap halts shown_is ∙ e))
-      suits.2 fits.1
+          → Agrees image told (step image state t).state (next_of t done ∷ done) schedule
+      on image told given tape v done state t schedule sound guided inv there here suits fits solves outcome shows true e again =
+          let p : Pos = next_of t done in
+          let ended : schedule ≡ [] = none_after (p ∷ done) schedule (suits.1 e) in
+          subst (λ (s : List ℕ). Agrees image told (step image state t).state (p ∷ done) s) (sym ended) tt
+      on image told given tape v done state t schedule sound guided inv there here suits fits solves outcome shows false e again =
+          let p : Pos = next_of t done in
+          let g : Goer (at v p).outcome = goer (at v p).outcome (ap halts shows ∙ e) in
+          let shown_is : g.shown ≡ noted told p = ap note_in (sym g.is) ∙ shows in
+          let goes : GoesOn image told v done t g.local g.writes g.shown = record {
+            place = here.place;
+            seen = ap (λ (x : Visit). x.seen) solves;
+            outcome = g.is;
+            shows = shown_is;
+          } in
+          let makes : MakesNext (length state.core.threads) g.shown =
+          subst (λ (n : ℕ). MakesNext n g.shown) (sym (inv.many ∙ ap made inv.calls))
+          (subst (λ (n : Note). MakesNext (made (calls_along told (value_of v) tape done)) n) (sym shown_is)
+          (makes_next (calls_along told (value_of v) tape done) t (noted told p) here.answered)) in
+          again
+          (inv_step image told tape v done state t g.local g.writes g.shown sound inv there goes makes (outcome ∙ g.is))
+          (step_goes image state t g.local g.writes g.shown (outcome ∙ g.is) (ap halts shown_is ∙ e))
+          suits.2 fits.1
 
 -- ---- from the run to the walk
 
@@ -367,9 +366,9 @@ agrees_fits image told given tape v done state (t ∷ schedule) sound inv looks 
     let rest : FitsAndShows image told given v (p ∷ done) (places_after (p ∷ done) schedule) =
     agrees_on image told given tape v done state t schedule sound inv there looks distinct only solves agrees is outcome shows (halts (noted told p)) refl
     (λ (next : Inv image told tape v (p ∷ done) (step image state t).state).
-      agrees_fits image told given tape v (p ∷ done) (step image state t).state schedule sound next
-      (looks_on image given state done t schedule distinct looks) distinct.1 (λ (q : Pos) (i : In q (places_after (p ∷ done) schedule)). only q (inr i))
-      (λ (q : Pos) (i : In q (places_after (p ∷ done) schedule)). solves q (inr i)) agrees.2) in
+    agrees_fits image told given tape v (p ∷ done) (step image state t).state schedule sound next
+    (looks_on image given state done t schedule distinct looks) distinct.1 (λ (q : Pos) (i : In q (places_after (p ∷ done) schedule)). only q (inr i))
+    (λ (q : Pos) (i : In q (places_after (p ∷ done) schedule)). solves q (inr i)) agrees.2) in
     ((here, rest.0), shows_cons told v p (places_after (p ∷ done) schedule) shows rest.1)
 
 abbrev nothing_seen : Visits

@@ -1,24 +1,22 @@
 -- Along a run whose steps are those of a guided walk: the threads, the shared state of the calls and the writes are what the
 -- walk makes of the steps so far.
-use Rattle.std.specs.Prelude.{◌≡◌, ◌≢◌, ℕ, zero, suc, ◌+◌, ◌-◌, ◌<◌, ◌≤◌, ◌⊎◌, Bool, true, false, cond, List, [], ◌∷◌, ◌++◌, length, map, nat_eq, slice_index_or, Option, Some, None, unwrap_or, is_some, Result, Ok, Err, refl}
+use Rattle.std.specs.Prelude.{◌≡◌, ◌≢◌, ℕ, zero, suc, ◌+◌, ◌-◌, ◌<◌, ◌≤◌, Bool, true, false, cond, List, [], ◌∷◌, ◌++◌, length, map, nat_eq, Option, Some, None, Result, Ok, Err, refl}
 use Rattle.std.proofs.Common.{sym, ◌∙◌, ap, subst, arith, inl, inr, get_or, set, ltb, eqb, eq-eqb}
-use Rattle.std.proofs.lemmas.Bool.{eqb-true, ne_eqb, ltb-true, ltb-false, lt-ltb, false≢true}
+use Rattle.std.proofs.lemmas.Bool.{eqb-true, ne_eqb, ltb-true, ltb-false, false≢true}
 use Rattle.std.proofs.lemmas.List.{length_push, length-set, length-map, length-append}
-use Rattle.std.proofs.lemmas.Option.{none-some, same_Some}
+use Rattle.std.proofs.lemmas.Option.{none-some}
 use Rattle.elf_image.specs.declared.write.Write.{Write}
 use Rattle.elf_image.specs.Layout.{Layout}
-use Rattle.elf_image.specs.Memory.{Cells, opening_cells, cells_after}
+use Rattle.elf_image.specs.Memory.{Cells}
 use Rattle.rv32_decode.specs.declared.instr.Instr.{Instr}
 use Rattle.rv32_decode.specs.declared.instr.Instr.TheVariants as instr
 use Rattle.odr_log.specs.declared.log.Cause.{Cause}
-use Rattle.odr_log.specs.declared.log.Call.{Call}
 use Rattle.odr_log.specs.declared.log.Call.TheVariants as call
 use Rattle.odr_log.specs.declared.log.Pos.{Pos}
 use Rattle.rv_model.specs.declared.state.Local.{Local}
 use Rattle.rv_model.specs.declared.state.Thread.{Thread}
 use Rattle.rv_model.specs.declared.state.Calls.{Calls}
 use Rattle.rv_model.specs.declared.state.Core.{Core}
-use Rattle.rv_model.specs.declared.state.Halt.{Halt}
 use Rattle.rv_model.specs.declared.state.State.{State}
 use Rattle.rv_model.specs.declared.state.Stepped.{Stepped}
 use Rattle.rv_model.specs.declared.state.Note.{Note}
@@ -26,16 +24,16 @@ use Rattle.rv_model.specs.declared.state.Note.TheVariants as note
 use Rattle.rv_model.specs.declared.hearing.Heard.{Heard}
 use Rattle.rv_model.specs.declared.hearing.Reach.{Reach}
 use Rattle.rv_model.specs.declared.hearing.Outcome.{Outcome}
-use Rattle.rv_model.specs.declared.hearing.Outcome.TheVariants.{Faults, Goes}
+use Rattle.rv_model.specs.declared.hearing.Outcome.TheVariants.{Goes}
 use Rattle.rv_model.specs.Thread.{fresh, no_thread, losing, surviving}
-use Rattle.rv_model.specs.Calls.{opening_calls, made, first_argument, reply_to, join_value}
+use Rattle.rv_model.specs.Calls.{made, first_argument, reply_to, join_value}
 use Rattle.rv_model.specs.Instruction.{act_at, access_at, asked_at, conditional_at, wins, reserving, reserving_at}
-use Rattle.rv_model.specs.Noted.{note_in, writes_in}
-use Rattle.rv_model.specs.Step.{opening, memory_of, instr_at, reach_of, thread_at, child_of, calls_then, halt_then, applied, gone, effect, after_effect, step}
-use Rattle.rv_model.proofs.Progress.{threads_then, own_then, other_then}
+use Rattle.rv_model.specs.Noted.{writes_in}
+use Rattle.rv_model.specs.Step.{opening, memory_of, instr_at, reach_of, thread_at, child_of, calls_then, applied, gone, effect, after_effect, step}
+use Rattle.rv_model.proofs.Progress.{own_then, other_then}
 use Rattle.rv_model.proofs.Bounds.{beyond}
 use Rattle.guided_walk.specs.Told.{Told, IsPlace, noted}
-use Rattle.guided_walk.specs.Guided.{Given, Seen, Visit, Visits, at, instr_of, went, handed, begins, seen_before, visit}
+use Rattle.guided_walk.specs.Guided.{Seen, Visits, at, instr_of, went, handed, begins, seen_before}
 use Rattle.guided_walk.specs.Orders.{In}
 use Rattle.guided_walk.specs.Schedules.{count, next_of}
 use Rattle.guided_walk.specs.Fits.{writes_along, reserved}

@@ -1,9 +1,9 @@
 -- Along a schedule that keeps the recorded order, the calls are the records of the log in their order.
-use Rattle.std.specs.Prelude.{◌≡◌, ◌≢◌, ℕ, zero, suc, ◌+◌, ◌<◌, ◌≤◌, ◌⊎◌, Bool, true, false, List, [], ◌∷◌, ◌++◌, length, map, drop, slice_get, Option, Some, None, Contains, refl}
-use Rattle.std.proofs.Common.{sym, ◌∙◌, ap, subst, arith, inl, inr, get_or}
+use Rattle.std.specs.Prelude.{◌≡◌, ℕ, zero, suc, ◌<◌, ◌≤◌, List, [], ◌∷◌, ◌++◌, map, drop, slice_get, Option, Some, None, refl}
+use Rattle.std.proofs.Common.{sym, ◌∙◌, ap, arith, inl, inr}
 use Rattle.std.proofs.lemmas.Bool.{cases_lt}
 use Rattle.std.proofs.lemmas.List.{append_assoc, append-nil}
-use Rattle.std.proofs.lemmas.Option.{none-some, same_Some, slice_get_within, get_or_from_slice_get}
+use Rattle.std.proofs.lemmas.Option.{none-some, same_Some}
 use Rattle.elf_image.specs.Layout.{Layout}
 use Rattle.odr_log.specs.declared.log.Call.{Call}
 use Rattle.odr_log.specs.declared.log.CallRec.{CallRec}
@@ -12,13 +12,13 @@ use Rattle.odr_log.specs.declared.log.Pos.{Pos}
 use Rattle.rv_model.specs.declared.state.Event.{Event}
 use Rattle.rv_model.specs.declared.state.Note.{Note}
 use Rattle.rv_model.specs.declared.state.Note.TheVariants as note
-use Rattle.rv_model.specs.Run.{logged, record_in, records_of, cons_some}
-use Rattle.rv_model.specs.Walk.{Walk, notes_of, IsWalk}
+use Rattle.rv_model.specs.Run.{record_in, records_of, cons_some}
+use Rattle.rv_model.specs.Walk.{Walk, IsWalk}
 use Rattle.rv_model.specs.CallsFit.{CallsFit}
-use Rattle.rv_model.specs.RecordedOrder.{Closure, One, More, Counted, IsStepOf, Edge, InThread, ByCalls, BySpawn, CountedEdge, RecordedOrder}
-use Rattle.guided_walk.specs.Told.{Told, told, place_of, IsPlace, noted}
+use Rattle.rv_model.specs.RecordedOrder.{One, Counted, ByCalls, RecordedOrder}
+use Rattle.guided_walk.specs.Told.{Told, told, place_of, noted}
 use Rattle.guided_walk.specs.Orders.{In, Keeps, Distinct}
-use Rattle.guided_walk.specs.Schedules.{next_of, places_after, places}
+use Rattle.guided_walk.specs.Schedules.{next_of, places_after}
 use Rattle.guided_walk.proofs.Along.{Next}
 use Rattle.guided_walk.proofs.Table.{Apart, apart_push}
 use Rattle.guided_walk.proofs.Walks.{called, called_is}
@@ -77,8 +77,8 @@ split_quiet : (image : Layout) (log : Log) (walk : Walk) → IsWalk image log wa
 split_quiet image log walk is done p later n quiet splits = record {
   past = λ (m : ℕ) (r : CallRec) (e : slice_get log.calls m ≡ Some r) (less : m < n). inr (splits.past m r e less);
   rest = λ (m : ℕ) (r : CallRec) (e : slice_get log.calls m ≡ Some r) (le : n ≤ m). elim (splits.rest m r e le) [
-    inl same ↦ absurd (none-some r.call (sym quiet ∙ ap (λ (q : Pos). called (noted (told log walk) q)) same ∙ ap called (called_noted image log walk is r (among_at log.calls m r e))))
-  | inr i ↦ i
+    | inl same ↦ absurd (none-some r.call (sym quiet ∙ ap (λ (q : Pos). called (noted (told log walk) q)) same ∙ ap called (called_noted image log walk is r (among_at log.calls m r e))))
+    | inr i ↦ i
   ];
 }
 
@@ -88,16 +88,16 @@ next_number : (image : Layout) (log : Log) (walk : Walk) → IsWalk image log wa
 next_number image log walk is fit done p later n i made apart keeps splits at =
     let r : CallRec = rec p.thread p.step made in
     elim (cases_lt i n) [
-      inl less ↦ absurd (apart p (splits.past i r at less) (inl refl))
-    | inr le ↦ elim (cases_lt n i) [
-        inl more ↦ (
-          let earlier : (s : CallRec) × (slice_get log.calls n ≡ Some s) = get_below log.calls n i r at more in
-          let s : CallRec = earlier.0 in
-          elim (splits.rest n s earlier.1 (omega arith)) [
-            inl same ↦ absurd (omega (arith, more, same_number log.calls fit.rising n i s r earlier.1 at (ap (λ (q : Pos). q.thread) (sym same)) (ap (λ (q : Pos). q.step) (sym same))))
-          | inr j ↦ absurd (keeps.0 (place_of s) j (calls_ordered image log walk is n i s r earlier.1 at more))
-          ])
-      | inr ge ↦ omega (arith, le, ge)
+      | inl less ↦ absurd (apart p (splits.past i r at less) (inl refl))
+      | inr le ↦ elim (cases_lt n i) [
+        | inl more ↦ (
+            let earlier : (s : CallRec) × (slice_get log.calls n ≡ Some s) = get_below log.calls n i r at more in
+            let s : CallRec = earlier.0 in
+            elim (splits.rest n s earlier.1 (omega arith)) [
+              | inl same ↦ absurd (omega (arith, more, same_number log.calls fit.rising n i s r earlier.1 at (ap (λ (q : Pos). q.thread) (sym same)) (ap (λ (q : Pos). q.step) (sym same))))
+              | inr j ↦ absurd (keeps.0 (place_of s) j (calls_ordered image log walk is n i s r earlier.1 at more))
+            ])
+        | inr ge ↦ omega (arith, le, ge)
       ]
     ]
 
@@ -105,14 +105,14 @@ split_call : (image : Layout) (log : Log) (walk : Walk) → IsWalk image log wal
     → slice_get log.calls n ≡ Some (rec p.thread p.step made) → Splits log done (p ∷ later) n → Splits log (p ∷ done) later (suc n)
 split_call image log walk is fit done p later n made at splits = record {
   past = λ (m : ℕ) (r : CallRec) (e : slice_get log.calls m ≡ Some r) (less : m < suc n). elim (cases_lt m n) [
-    inl below ↦ inr (splits.past m r e below)
-  | inr le ↦ (let same : m ≡ n = omega (arith, less, le) in
-      let one : rec p.thread p.step made ≡ r = same_Some (rec p.thread p.step made) r (sym at ∙ ap (slice_get log.calls) (sym same) ∙ e) in
-      inl (ap place_of one))
+    | inl below ↦ inr (splits.past m r e below)
+    | inr le ↦ (let same : m ≡ n = omega (arith, less, le) in
+        let one : rec p.thread p.step made ≡ r = same_Some (rec p.thread p.step made) r (sym at ∙ ap (slice_get log.calls) (sym same) ∙ e) in
+        inl (ap place_of one))
   ];
   rest = λ (m : ℕ) (r : CallRec) (e : slice_get log.calls m ≡ Some r) (le : suc n ≤ m). elim (splits.rest m r e (omega (arith, le))) [
-    inl same ↦ absurd (omega (arith, le, same_number log.calls fit.rising m n r (rec p.thread p.step made) e at (ap (λ (q : Pos). q.thread) (sym same)) (ap (λ (q : Pos). q.step) (sym same))))
-  | inr i ↦ i
+    | inl same ↦ absurd (omega (arith, le, same_number log.calls fit.rising m n r (rec p.thread p.step made) e at (ap (λ (q : Pos). q.thread) (sym same)) (ap (λ (q : Pos). q.step) (sym same))))
+    | inr i ↦ i
   ];
 }
 
@@ -155,11 +155,11 @@ pub calls_in_order : (image : Layout) (log : Log) (walk : Walk) → IsWalk image
 calls_in_order image log walk is fit done [] n distinct apart keeps splits = sym (none_left log done n splits (slice_get log.calls n) refl)
 calls_in_order image log walk is fit done (p ∷ later) n distinct apart keeps splits = by_step (splits_on image log walk is fit done p later n apart keeps splits)
     (λ (m : ℕ) (s : Splits log (p ∷ done) later m). calls_in_order image log walk is fit (p ∷ done) later m distinct.1 (apart_push done p later distinct apart) keeps.1 s) where
-  by_step : SplitsOn log walk done p later n → ((m : ℕ) → Splits log (p ∷ done) later m → records_of (map (told_event (told log walk)) later) ≡ drop m log.calls)
-      → records_of (map (told_event (told log walk)) (p ∷ later)) ≡ drop n log.calls
-  by_step (NoCall quiet s) again =
-      quiet_record (told log walk) p (map (told_event (told log walk)) later) (noted (told log walk) p) refl quiet ∙ again n s
-  by_step (ACall {made = made} shows at s) again =
-      call_record (told log walk) p (map (told_event (told log walk)) later) made shows
-      ∙ ap (λ (rs : List CallRec). rec p.thread p.step made ∷ rs) (again (suc n) s)
-      ∙ sym (drop_at log.calls n (rec p.thread p.step made) at)
+      by_step : SplitsOn log walk done p later n → ((m : ℕ) → Splits log (p ∷ done) later m → records_of (map (told_event (told log walk)) later) ≡ drop m log.calls)
+          → records_of (map (told_event (told log walk)) (p ∷ later)) ≡ drop n log.calls
+      by_step (NoCall quiet s) again =
+          quiet_record (told log walk) p (map (told_event (told log walk)) later) (noted (told log walk) p) refl quiet ∙ again n s
+      by_step (ACall {made = made} shows at s) again =
+          call_record (told log walk) p (map (told_event (told log walk)) later) made shows
+          ∙ ap (λ (rs : List CallRec). rec p.thread p.step made ∷ rs) (again (suc n) s)
+          ∙ sym (drop_at log.calls n (rec p.thread p.step made) at)

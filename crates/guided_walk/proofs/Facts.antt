@@ -1,8 +1,8 @@
 -- What a walk and calls that fit say of the steps as they are told: notes are records, and each spawn and end is the one that
 -- made or ended its thread.
-use Rattle.std.specs.Prelude.{◌≡◌, ◌≢◌, ℕ, zero, suc, ◌+◌, ◌-◌, ◌<◌, ◌≤◌, ◌⊎◌, Bool, true, false, cond, List, [], ◌∷◌, ◌++◌, length, nat_eq, filter, slice_get, slice_index_or, Option, Some, None, option_map, All, AllPairs, refl}
+use Rattle.std.specs.Prelude.{◌≡◌, ℕ, zero, suc, ◌+◌, ◌-◌, ◌<◌, ◌≤◌, Bool, true, false, cond, List, [], ◌∷◌, length, nat_eq, slice_get, Some, None, option_map, All, AllPairs, refl}
 use Rattle.std.specs.List.{find}
-use Rattle.std.proofs.Common.{sym, ◌∙◌, ap, subst, arith, inl, inr, get_or, eqb, ltb, eq-eqb}
+use Rattle.std.proofs.Common.{sym, ◌∙◌, ap, subst, arith, inl, inr, get_or, ltb, eq-eqb}
 use Rattle.std.proofs.lemmas.Bool.{cases_lt, eqb-true, ltb-true, ltb-false, false≢true}
 use Rattle.std.proofs.lemmas.List.{get_or_past, length_push}
 use Rattle.std.proofs.Math.ListN.{get_or-append}
@@ -23,11 +23,11 @@ use Rattle.rv_model.specs.Calls.{made, calls_after}
 use Rattle.rv_model.specs.Run.{logged, records_of}
 use Rattle.rv_model.specs.Walk.{Walk, notes_of, places_of, events_from, is_last, records_by, makes, maker_of, ThreadWalk, IsWalk}
 use Rattle.rv_model.specs.CallsFit.{after_record, FitsRecord, Pass, CallsFit}
-use Rattle.rv_model.proofs.SpawnLemmas.{grows, spawn_makes, spawn_child}
-use Rattle.guided_walk.specs.Told.{Told, told, last_fault, shown_by, ends, place_of, IsPlace, noted}
+use Rattle.rv_model.proofs.SpawnLemmas.{spawn_makes, spawn_child}
+use Rattle.guided_walk.specs.Told.{told, last_fault, ends, place_of, IsPlace, noted}
 use Rattle.guided_walk.proofs.Along.{Sound}
 use Rattle.guided_walk.proofs.Walks.{leads_length}
-use Rattle.guided_walk.proofs.Records.{Among, among_at, at_among, among_filter, filter_among, found_among, among_found, rec, NotedAt, notes_recorded, records_noted, one_record}
+use Rattle.guided_walk.proofs.Records.{Among, at_among, among_filter, filter_among, found_among, among_found, rec, NotedAt, notes_recorded, records_noted, one_record}
 
 -- ---- a thread's notes
 
@@ -85,8 +85,8 @@ place_called image log walk is p made e =
     let has : Among (rec p.thread (0 + p.step) made) (records_of (events_from p.thread 0 (notes_of walk p.thread))) =
     notes_recorded p.thread 0 (notes_of walk p.thread) p.step made less (sym (noted_step log walk p less) ∙ e) in
     (among_filter (λ (r : CallRec). nat_eq r.tid p.thread) log.calls (rec p.thread p.step made)
-      (subst (λ (s : ℕ). Among (rec p.thread s made) (records_by p.thread log.calls)) (let z : 0 + p.step ≡ p.step = omega arith in z)
-      (subst (Among (rec p.thread (0 + p.step) made)) tw.calls has))).0
+    (subst (λ (s : ℕ). Among (rec p.thread s made) (records_by p.thread log.calls)) (let z : 0 + p.step ≡ p.step = omega arith in z)
+    (subst (Among (rec p.thread (0 + p.step) made)) tw.calls has))).0
 
 -- a record of the log is the call that its place shows
 pub record CalledAt (log : Log) (walk : Walk) (r : CallRec) : Type 0 where
@@ -142,9 +142,9 @@ spawn_after calls records first n r entry other child fits pass e at f =
     let later : made (after_record calls first) ≤ child = spawn_child (after_record calls first) records n r other child pass at f in
     let one : made (after_record calls first) ≡ made calls + 1 = spawned calls first entry child e in
     absurd (omega (arith, here, later, one)) where
-  spawned : (calls : Calls) (first : CallRec) (entry child : ℕ) → first.call ≡ call.Spawn entry (Some child) → made (after_record calls first) ≡ made calls + 1
-  spawned calls first entry child e =
-      ap (λ (c : Call). made (calls_after calls first.tid 0 c)) e ∙ length_push calls.ended None
+      spawned : (calls : Calls) (first : CallRec) (entry child : ℕ) → first.call ≡ call.Spawn entry (Some child) → made (after_record calls first) ≡ made calls + 1
+      spawned calls first entry child e =
+          ap (λ (c : Call). made (calls_after calls first.tid 0 c)) e ∙ length_push calls.ended None
 
 pub one_spawn : (calls : Calls) (records : List CallRec) (m n : ℕ) (r s : CallRec) (entry other child : ℕ) → Pass calls records
     → slice_get records m ≡ Some r → r.call ≡ call.Spawn entry (Some child) → slice_get records n ≡ Some s → s.call ≡ call.Spawn other (Some child) → r ≡ s
@@ -174,6 +174,7 @@ ends_by_call thread r made is e = by_call made (ap (λ (c : Call). test c) (sym 
   test : Call → Bool
   test call.EndThread = nat_eq r.tid thread
   test other = false
+
   by_call : (c : Call) → test c ≡ true → r.call ≡ c → (r.call ≡ call.EndThread) × (r.tid ≡ thread)
   by_call call.EndThread h same = (same, eqb-true r.tid thread h)
   by_call (call.Spawn entry child) h same = absurd (false≢true h)
@@ -207,10 +208,10 @@ one_end image log walk is fit r s has there e f same =
     let there_last : is_last (get_or (notes_of walk r.tid) s.at note.Nothing) ≡ true =
     ap (λ (u : ℕ). is_last (get_or (notes_of walk u) s.at note.Nothing)) same ∙ ap is_last b.is ∙ ap (λ (c : Call). is_last (note.Called c)) f in
     let at : r.at ≡ s.at = elim (cases_lt r.at s.at) [
-      inl less ↦ absurd (last_once (notes_of walk r.tid) pairs r.at s.at less there_within last)
-    | inr le ↦ elim (cases_lt s.at r.at) [
-        inl more ↦ absurd (last_once (notes_of walk r.tid) pairs s.at r.at more a.within there_last)
-      | inr ge ↦ omega (arith, le, ge)
+      | inl less ↦ absurd (last_once (notes_of walk r.tid) pairs r.at s.at less there_within last)
+      | inr le ↦ elim (cases_lt s.at r.at) [
+        | inl more ↦ absurd (last_once (notes_of walk r.tid) pairs s.at r.at more a.within there_last)
+        | inr ge ↦ omega (arith, le, ge)
       ]
     ] in
     one_record log.calls fit.rising r s has there same at

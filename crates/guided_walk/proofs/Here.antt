@@ -1,36 +1,33 @@
 -- At one step of a run along a guided walk: what the run hears is what the walk hears, as far as the step's outcome shows.
-use Rattle.std.specs.Prelude.{◌≡◌, ℕ, zero, suc, ◌+◌, ◌<◌, Bool, true, false, cond, List, [], ◌∷◌, map, length, Option, Some, None, is_some, Result, Ok, Err, refl}
+use Rattle.std.specs.Prelude.{◌≡◌, ℕ, ◌+◌, ◌<◌, Bool, true, false, cond, List, map, length, Option, Some, None, Result, refl}
 use Rattle.std.specs.List.{range_with_len}
 use Rattle.std.proofs.Common.{sym, ◌∙◌, ap, subst, arith}
-use Rattle.std.proofs.lemmas.Option.{none-some, same_Some}
+use Rattle.std.proofs.lemmas.Option.{none-some}
 use Rattle.elf_image.specs.declared.write.Write.{Write}
 use Rattle.elf_image.specs.Layout.{Layout}
-use Rattle.elf_image.specs.Memory.{Cells, opening_cells, cells_after, byte_in, all_readable, all_writable, bytes_from, load_bytes}
+use Rattle.elf_image.specs.Memory.{Cells, opening_cells, cells_after, byte_in, all_readable, bytes_from, load_bytes}
 use Rattle.rv32_decode.specs.declared.instr.Instr.{Instr}
 use Rattle.odr_log.specs.declared.log.Cause.{Cause}
 use Rattle.odr_log.specs.declared.log.Pos.{Pos}
-use Rattle.rv_model.specs.declared.state.Thread.{Thread}
 use Rattle.rv_model.specs.declared.state.Calls.{Calls}
-use Rattle.rv_model.specs.declared.state.Note.{Note}
 use Rattle.rv_model.specs.declared.state.State.{State}
 use Rattle.rv_model.specs.declared.hearing.Access.{Access}
-use Rattle.rv_model.specs.declared.hearing.Asked.{Asked}
 use Rattle.rv_model.specs.declared.hearing.Heard.{Heard}
 use Rattle.rv_model.specs.declared.hearing.Reach.{Reach}
 use Rattle.rv_model.specs.declared.hearing.Outcome.{Outcome}
 use Rattle.rv_model.specs.declared.hearing.Outcome.TheVariants.{Faults, Goes}
 use Rattle.rv_model.specs.Calls.{reply_to, join_value}
-use Rattle.rv_model.specs.Instruction.{act_at, access_at, asked_at, conditional_at, wins}
-use Rattle.rv_model.specs.Noted.{note_in, asked_noted, reply_noted, over_bytes}
-use Rattle.rv_model.specs.Step.{instr_at, reach_of, memory_of, thread_at}
+use Rattle.rv_model.specs.Instruction.{asked_at, wins}
+use Rattle.rv_model.specs.Noted.{note_in, asked_noted, reply_noted}
+use Rattle.rv_model.specs.Step.{memory_of, thread_at}
 use Rattle.rv_model.proofs.Acts.{asked_act, told_act, bytes_asked}
 use Rattle.guided_walk.specs.Told.{Told, IsPlace, noted}
-use Rattle.guided_walk.specs.Guided.{Given, Seen, Visit, Visits, at, instr_of, access_in, conditional_in, met, linked, hears, joins, joined_from, seen_before, visit_from, visit}
+use Rattle.guided_walk.specs.Guided.{Given, Seen, Visit, Visits, at, instr_of, access_in, conditional_in, linked, hears, joins, joined_from, seen_before, visit}
 use Rattle.guided_walk.specs.Orders.{In}
 use Rattle.guided_walk.specs.Schedules.{count, next_of}
-use Rattle.guided_walk.specs.Fits.{reads_in, read_count, conditional_by, byte_address, writes_along, memory_along, reserved, FitsVisit}
+use Rattle.guided_walk.specs.Fits.{reads_in, conditional_by, byte_address, writes_along, memory_along, reserved, FitsVisit}
 use Rattle.guided_walk.specs.Run.{calls_along, value_of, thread_along}
-use Rattle.guided_walk.proofs.Acts.{SameHeard, SameRead, same_act}
+use Rattle.guided_walk.proofs.Acts.{SameHeard, same_act}
 use Rattle.guided_walk.proofs.Meeting.{all_writable_after, readable_same, some_cond, bytes_are}
 use Rattle.guided_walk.proofs.Along.{Sound, Inv, heard_by, outcome_by}
 use Rattle.guided_walk.proofs.Shared.{joined_is}

@@ -1,62 +1,31 @@
 -- A schedule that has a log notes at each of its steps what the log's walk has there.
-use Rattle.std.specs.Prelude.{◌≡◌, ◌≢◌, ℕ, zero, suc, ◌+◌, ◌-◌, ◌<◌, ◌≤◌, ◌⊎◌, ◌&&◌, Bool, true, false, cond, List, [], ◌∷◌, ◌++◌, length, map, take, nat_eq, nat_lt, slice_get, Option, Some, None, is_none, Result, Ok, Err, refl}
-use Rattle.std.proofs.Common.{sym, ◌∙◌, ap, subst, arith, inl, inr, get_or, set, ltb, eqb, eq-eqb}
-use Rattle.std.proofs.lemmas.Bool.{and_parts, eqb-true, ltb-true, ltb-false, false≢true}
-use Rattle.std.proofs.lemmas.List.{length_push, length-append, append-nil}
-use Rattle.std.proofs.Math.Seq.{get_or-append_right}
-use Rattle.std.proofs.lemmas.Option.{none-some, same_Some}
+use Rattle.std.specs.Prelude.{◌≡◌, ◌≢◌, ℕ, zero, suc, ◌+◌, ◌-◌, ◌<◌, ◌≤◌, Bool, true, false, cond, List, [], ◌∷◌, ◌++◌, length, take, nat_eq, slice_get, Option, Some, None, refl}
+use Rattle.std.proofs.Common.{sym, ◌∙◌, ap, subst, arith, inl, inr, get_or, ltb, eqb, eq-eqb}
+use Rattle.std.proofs.lemmas.Bool.{eqb-true, ltb-true, ltb-false, false≢true}
+use Rattle.std.proofs.lemmas.List.{append-nil}
 use Rattle.elf_image.specs.declared.write.Write.{Write}
-use Rattle.elf_image.specs.Layout.{Layout}
-use Rattle.rv32_decode.specs.declared.instr.Instr.{Instr}
-use Rattle.odr_log.specs.declared.log.Cause.{Cause}
-use Rattle.odr_log.specs.declared.log.Call.{Call}
 use Rattle.odr_log.specs.declared.log.Call.TheVariants as call
-use Rattle.odr_log.specs.declared.log.CallRec.{CallRec}
-use Rattle.odr_log.specs.declared.log.End.{End}
-use Rattle.odr_log.specs.declared.log.End.TheVariants as end
 use Rattle.odr_log.specs.declared.log.Log.{Log}
 use Rattle.odr_log.specs.declared.log.PathItem.{PathItem}
-use Rattle.odr_log.specs.declared.log.PathItem.TheVariants as item
 use Rattle.odr_log.specs.declared.log.Pos.{Pos}
-use Rattle.odr_log.specs.Tape.{tape_of}
-use Rattle.odr_log.specs.Same.{same_item, same_rec, same_end}
-use Rattle.odr_log.specs.SameLaws.{same_item-exact, same_rec-exact, same_end-exact}
 use Rattle.rv_model.specs.declared.state.Local.{Local}
 use Rattle.rv_model.specs.declared.state.Thread.{Thread}
-use Rattle.rv_model.specs.declared.state.Calls.{Calls}
 use Rattle.rv_model.specs.declared.state.Core.{Core}
 use Rattle.rv_model.specs.declared.state.Note.{Note}
 use Rattle.rv_model.specs.declared.state.Note.TheVariants as note
-use Rattle.rv_model.specs.declared.state.State.{State}
-use Rattle.rv_model.specs.declared.state.Stepped.{Stepped}
 use Rattle.rv_model.specs.declared.state.Event.{Event}
-use Rattle.rv_model.specs.declared.hearing.Heard.{Heard}
-use Rattle.rv_model.specs.declared.hearing.Outcome.{Outcome}
-use Rattle.rv_model.specs.declared.hearing.Outcome.TheVariants.{Faults, Goes}
-use Rattle.rv_model.specs.declared.walk.Place.{Place}
-use Rattle.rv_model.specs.declared.walk.Transfer.{Transfer}
 use Rattle.rv_model.specs.Thread.{no_thread, losing}
-use Rattle.rv_model.specs.Calls.{made, reply_to, opening_calls}
-use Rattle.rv_model.specs.Noted.{note_in, asked_noted, reply_noted, LeadsOn}
-use Rattle.rv_model.specs.Step.{opening, memory_of, instr_at, thread_at, child_of, applied, gone, after_effect, step, is_enabled}
-use Rattle.rv_model.specs.Run.{event_of, item_of, cons_some, path_of, logged, is_counted, next_item, next_record, agrees_by, agrees, fits, differs_from, first_diff, HasLog, option_test}
-use Rattle.rv_model.specs.Walk.{Walk, notes_of, places_of, events_from, transfer_of, goes_to, maker_of, BeginsAt, ThreadWalk, IsWalk}
-use Rattle.rv_model.specs.CallsFit.{CallsFit}
-use Rattle.rv_model.proofs.Progress.{IsQuiet, quiet-act_at, threads_then, own_then, other_then}
+use Rattle.rv_model.specs.Step.{thread_at, child_of, gone}
+use Rattle.rv_model.specs.Run.{item_of, cons_some, path_of}
+use Rattle.rv_model.specs.Walk.{Walk, notes_of, events_from}
+use Rattle.rv_model.proofs.Progress.{own_then, other_then}
 use Rattle.rv_model.proofs.Bounds.{beyond}
-use Rattle.rv_model.proofs.Difference.{no_difference, enabled_within, enabled_goes, step_none, some_passes}
 use Rattle.rv_model.proofs.LogParts.{path_of-append}
-use Rattle.rv_model.proofs.Acts.{asked_act, told_act, walks_on_at}
-use Rattle.guided_walk.specs.Told.{Told, told, last_fault, shown_by, IsPlace, noted}
+use Rattle.guided_walk.specs.Told.{Told, told, noted}
 use Rattle.guided_walk.specs.Orders.{In}
-use Rattle.guided_walk.specs.Schedules.{count, next_of, places_after, places, times}
-use Rattle.guided_walk.specs.Run.{halts, Agrees}
-use Rattle.guided_walk.proofs.Along.{MakesNext, MakesOne, MakesNone, heard_by, outcome_by, reserving_by, step_is, threads_none, threads_one, many_then, more_then, After}
-use Rattle.guided_walk.proofs.Shared.{makes_next}
-use Rattle.guided_walk.proofs.Agree.{step_note, halted_step}
-use Rattle.guided_walk.proofs.Walks.{pc_from, leads_start, AtStep, leads_step, Shape, shape, called, one_note}
-use Rattle.guided_walk.proofs.Records.{Among, among_at, rec, one_record}
-use Rattle.guided_walk.proofs.Facts.{in_log, notes_counted, noted_step, place_called, maker_is}
+use Rattle.guided_walk.specs.Schedules.{count}
+use Rattle.guided_walk.proofs.Along.{MakesNext, MakesOne, MakesNone, threads_none, threads_one, After}
+use Rattle.guided_walk.proofs.Facts.{noted_step}
 
 -- ---- what the steps so far told
 

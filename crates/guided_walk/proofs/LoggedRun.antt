@@ -1,9 +1,9 @@
 -- A schedule that has a log notes at each of its steps what the log's walk has there: along its run each thread is at the
 -- address where the walk has it.
-use Rattle.std.specs.Prelude.{◌≡◌, ◌≢◌, ℕ, zero, suc, ◌+◌, ◌-◌, ◌<◌, ◌≤◌, ◌⊎◌, ◌&&◌, Bool, true, false, cond, List, [], ◌∷◌, ◌++◌, length, map, take, nat_eq, nat_lt, slice_get, Option, Some, None, is_none, Result, Ok, Err, refl}
-use Rattle.std.proofs.Common.{sym, ◌∙◌, ap, subst, arith, inl, inr, get_or, set, ltb, eqb, eq-eqb}
-use Rattle.std.proofs.lemmas.Bool.{and_parts, eqb-true, ltb-true, ltb-false, false≢true}
-use Rattle.std.proofs.lemmas.List.{length_push, length-append, append-nil}
+use Rattle.std.specs.Prelude.{◌≡◌, ℕ, zero, suc, ◌+◌, ◌-◌, ◌<◌, ◌≤◌, ◌⊎◌, Bool, true, false, cond, List, [], ◌∷◌, ◌++◌, length, nat_lt, slice_get, Option, Some, None, is_none, Result, Ok, refl}
+use Rattle.std.proofs.Common.{sym, ◌∙◌, ap, subst, arith, inl, inr, get_or, ltb, eqb, eq-eqb}
+use Rattle.std.proofs.lemmas.Bool.{and_parts, ltb-true, false≢true}
+use Rattle.std.proofs.lemmas.List.{length-append}
 use Rattle.std.proofs.Math.Seq.{get_or-append_right}
 use Rattle.std.proofs.lemmas.Option.{none-some, same_Some}
 use Rattle.elf_image.specs.declared.write.Write.{Write}
@@ -20,11 +20,10 @@ use Rattle.odr_log.specs.declared.log.PathItem.{PathItem}
 use Rattle.odr_log.specs.declared.log.PathItem.TheVariants as item
 use Rattle.odr_log.specs.declared.log.Pos.{Pos}
 use Rattle.odr_log.specs.Tape.{tape_of}
-use Rattle.odr_log.specs.Same.{same_item, same_rec, same_end}
+use Rattle.odr_log.specs.Same.{same_item, same_rec}
 use Rattle.odr_log.specs.SameLaws.{same_item-exact, same_rec-exact, same_end-exact}
 use Rattle.rv_model.specs.declared.state.Local.{Local}
 use Rattle.rv_model.specs.declared.state.Thread.{Thread}
-use Rattle.rv_model.specs.declared.state.Calls.{Calls}
 use Rattle.rv_model.specs.declared.state.Core.{Core}
 use Rattle.rv_model.specs.declared.state.Note.{Note}
 use Rattle.rv_model.specs.declared.state.Note.TheVariants as note
@@ -34,31 +33,27 @@ use Rattle.rv_model.specs.declared.state.Event.{Event}
 use Rattle.rv_model.specs.declared.hearing.Heard.{Heard}
 use Rattle.rv_model.specs.declared.hearing.Outcome.{Outcome}
 use Rattle.rv_model.specs.declared.hearing.Outcome.TheVariants.{Faults, Goes}
-use Rattle.rv_model.specs.declared.walk.Place.{Place}
-use Rattle.rv_model.specs.declared.walk.Transfer.{Transfer}
-use Rattle.rv_model.specs.Thread.{no_thread, losing}
-use Rattle.rv_model.specs.Calls.{made, reply_to, opening_calls}
+use Rattle.rv_model.specs.Thread.{no_thread}
+use Rattle.rv_model.specs.Calls.{made, reply_to}
 use Rattle.rv_model.specs.Instruction.{asked_at}
 use Rattle.rv_model.specs.Noted.{note_in, asked_noted, reply_noted, LeadsOn}
 use Rattle.rv_model.specs.Step.{opening, memory_of, instr_at, thread_at, child_of, applied, gone, after_effect, step, is_enabled}
-use Rattle.rv_model.specs.Run.{event_of, item_of, cons_some, path_of, logged, is_counted, next_item, next_record, agrees_by, agrees, fits, differs_from, first_diff, HasLog, option_test}
+use Rattle.rv_model.specs.Run.{event_of, item_of, path_of, logged, is_counted, next_item, next_record, agrees_by, agrees, fits, differs_from, first_diff, HasLog, option_test}
 use Rattle.rv_model.specs.Walk.{Walk, notes_of, places_of, events_from, transfer_of, goes_to, maker_of, BeginsAt, ThreadWalk, IsWalk}
 use Rattle.rv_model.specs.CallsFit.{CallsFit}
-use Rattle.rv_model.proofs.Progress.{IsQuiet, quiet-act_at, threads_then, own_then, other_then}
-use Rattle.rv_model.proofs.Bounds.{beyond}
+use Rattle.rv_model.proofs.Progress.{IsQuiet, quiet-act_at}
 use Rattle.rv_model.proofs.Difference.{no_difference, enabled_within, enabled_goes, step_none, some_passes}
-use Rattle.rv_model.proofs.LogParts.{path_of-append}
 use Rattle.rv_model.proofs.Acts.{asked_act, told_act, walks_on_at}
-use Rattle.guided_walk.specs.Told.{Told, told, last_fault, shown_by, IsPlace, noted}
+use Rattle.guided_walk.specs.Told.{Told, told, last_fault, shown_by, noted}
 use Rattle.guided_walk.specs.Orders.{In}
-use Rattle.guided_walk.specs.Schedules.{count, next_of, places_after, places, times}
+use Rattle.guided_walk.specs.Schedules.{count, next_of, times}
 use Rattle.guided_walk.specs.Run.{halts, Agrees}
-use Rattle.guided_walk.proofs.Along.{MakesNext, MakesOne, MakesNone, heard_by, outcome_by, reserving_by, step_is, threads_none, threads_one, many_then, more_then, After}
+use Rattle.guided_walk.proofs.Along.{MakesNext, heard_by, outcome_by, reserving_by, step_is, many_then, more_then}
 use Rattle.guided_walk.proofs.Shared.{makes_next}
 use Rattle.guided_walk.proofs.Agree.{step_note, halted_step}
-use Rattle.guided_walk.proofs.Walks.{pc_from, leads_start, AtStep, leads_step, Shape, shape, called, called_is, one_note}
+use Rattle.guided_walk.proofs.Walks.{pc_from, leads_start, AtStep, leads_step, shape, called, called_is, one_note}
 use Rattle.guided_walk.proofs.Records.{Among, among_at, rec, one_record}
-use Rattle.guided_walk.proofs.Facts.{in_log, notes_counted, noted_step, place_called, maker_is}
+use Rattle.guided_walk.proofs.Facts.{notes_counted, noted_step, place_called, maker_is}
 use Rattle.guided_walk.proofs.Logged.{told_event, events_along, Built, path_along, path_at, each_then}
 use Rattle.guided_walk.proofs.Along.{Next, count_own, count_other}
 
@@ -79,8 +74,11 @@ pub record Follows (image : Layout) (log : Log) (walk : Walk) (done : List Pos) 
   pub unmade : (u : ℕ) → length state.core.threads ≤ u → count u done ≡ 0
 
 begins_first : (image : Layout) (log : Log) (walk : Walk) (tape : List ℕ) (u : ℕ) → u < 1 → IsAt image log walk [] u (thread_at (opening image tape).core u)
-begins_first image log walk tape zero less = (refl, λ (tw : ThreadWalk image log 0 (places_of walk 0) (notes_of walk 0)).
-  sym (leads_start image tw.start (places_of walk 0) (notes_of walk 0) tw.after tw.leads ∙ tw.begins))
+begins_first image log walk tape zero less = (
+  refl,
+  λ (tw : ThreadWalk image log 0 (places_of walk 0) (notes_of walk 0)).
+      sym (leads_start image tw.start (places_of walk 0) (notes_of walk 0) tw.after tw.leads ∙ tw.begins),
+)
 begins_first image log walk tape (suc u) less = absurd (omega arith)
 
 pub follows_opening : (image : Layout) (log : Log) (walk : Walk) (tape : List ℕ) → Follows image log walk [] (opening image tape)
@@ -126,30 +124,33 @@ follows_gone image log walk done state t reservation local writes shown is fit f
       many = many_then core t reservation local writes shown makes follows.many;
       some = omega (arith, more, follows.some);
       threads = λ (u : ℕ) (less : u < length (gone core t reservation local writes shown).core.threads).
-          each_then (IsAt image log walk (Next t done)) core t reservation local writes shown there makes
-          ((let k : (thread_at core t).retired ≡ count t done = (follows.threads t there).0 in
-            let e : (thread_at core t).retired + 1 ≡ suc (count t done) = omega (arith, k) in e ∙ sym (count_own t done)),
-           λ (tw : ThreadWalk image log t (places_of walk t) (notes_of walk t)). led.pc tw ∙ ap (pc_from (places_of walk t) tw.after) (sym (count_own t done)))
-          (λ (w : ℕ) (in_old : w < length core.threads) (ne : w ≡ t → ⊥).
-            ((follows.threads w in_old).0 ∙ sym (count_other t w done ne),
-             λ (tw : ThreadWalk image log w (places_of walk w) (notes_of walk w)).
-             (follows.threads w in_old).1 tw ∙ ap (pc_from (places_of walk w) tw.after) (sym (count_other t w done ne))))
+          each_then (IsAt image log walk (Next t done)) core t reservation local writes shown there makes (
+            (let k : (thread_at core t).retired ≡ count t done = (follows.threads t there).0 in
+                let e : (thread_at core t).retired + 1 ≡ suc (count t done) = omega (arith, k) in e ∙ sym (count_own t done)),
+            λ (tw : ThreadWalk image log t (places_of walk t) (notes_of walk t)). led.pc tw ∙ ap (pc_from (places_of walk t) tw.after) (sym (count_own t done)),
+          )
+          (λ (w : ℕ) (in_old : w < length core.threads) (ne : w ≡ t → ⊥). (
+            (follows.threads w in_old).0 ∙ sym (count_other t w done ne),
+            λ (tw : ThreadWalk image log w (places_of walk w) (notes_of walk w)).
+                (follows.threads w in_old).1 tw ∙ ap (pc_from (places_of walk w) tw.after) (sym (count_other t w done ne)),
+          ))
           (λ (entry : ℕ) (named : shown ≡ note.Called (call.Spawn entry (Some (length core.threads)))).
-            let w : ℕ = length core.threads in
-            let ne : w ≡ t → ⊥ = λ (same : w ≡ t). absurd (omega (arith, there, same)) in
-            let none : count w (Next t done) ≡ 0 = count_other t w done ne ∙ follows.unmade w (omega arith) in
-            let fresh_retired : (get_or (child_of (thread_at core t).local shown) 0 no_thread).retired ≡ 0 =
-            subst (λ (n : Note). (get_or (child_of (thread_at core t).local n) 0 no_thread).retired ≡ 0) (sym named) refl in
-            let fresh_pc : (get_or (child_of (thread_at core t).local shown) 0 no_thread).local.pc ≡ entry =
-            subst (λ (n : Note). (get_or (child_of (thread_at core t).local n) 0 no_thread).local.pc ≡ entry) (sym named) refl in
-            let spawn : CallRec = rec t (count t done) (call.Spawn entry (Some w)) in
-            let has : Among spawn log.calls = place_called image log walk is p (call.Spawn entry (Some w)) (sym led.note ∙ named) in
-            let maker : maker_of log w ≡ Some spawn = maker_is log fit spawn entry w has refl in
-            (fresh_retired ∙ sym none,
-             λ (tw : ThreadWalk image log w (places_of walk w) (notes_of walk w)).
-             fresh_pc ∙ sym (begins_spawned image log w entry tw.start spawn follows.some maker refl tw.begins)
-             ∙ sym (leads_start image tw.start (places_of walk w) (notes_of walk w) tw.after tw.leads)
-             ∙ ap (pc_from (places_of walk w) tw.after) (sym none)))
+          let w : ℕ = length core.threads in
+          let ne : w ≡ t → ⊥ = λ (same : w ≡ t). absurd (omega (arith, there, same)) in
+          let none : count w (Next t done) ≡ 0 = count_other t w done ne ∙ follows.unmade w (omega arith) in
+          let fresh_retired : (get_or (child_of (thread_at core t).local shown) 0 no_thread).retired ≡ 0 =
+          subst (λ (n : Note). (get_or (child_of (thread_at core t).local n) 0 no_thread).retired ≡ 0) (sym named) refl in
+          let fresh_pc : (get_or (child_of (thread_at core t).local shown) 0 no_thread).local.pc ≡ entry =
+          subst (λ (n : Note). (get_or (child_of (thread_at core t).local n) 0 no_thread).local.pc ≡ entry) (sym named) refl in
+          let spawn : CallRec = rec t (count t done) (call.Spawn entry (Some w)) in
+          let has : Among spawn log.calls = place_called image log walk is p (call.Spawn entry (Some w)) (sym led.note ∙ named) in
+          let maker : maker_of log w ≡ Some spawn = maker_is log fit spawn entry w has refl in (
+            fresh_retired ∙ sym none,
+            λ (tw : ThreadWalk image log w (places_of walk w) (notes_of walk w)).
+                fresh_pc ∙ sym (begins_spawned image log w entry tw.start spawn follows.some maker refl tw.begins)
+                ∙ sym (leads_start image tw.start (places_of walk w) (notes_of walk w) tw.after tw.leads)
+                ∙ ap (pc_from (places_of walk w) tw.after) (sym none),
+          ))
           u (ltb u (length core.threads)) refl (eqb u t) refl less;
       unmade = λ (u : ℕ) (past : length (gone core t reservation local writes shown).core.threads ≤ u).
           let ne : u ≡ t → ⊥ = λ (same : u ≡ t). absurd (omega (arith, there, more, past, same)) in
@@ -234,16 +235,16 @@ led_on image log walk done state t local writes shown is fit follows there leads
     one_note (transfer_of pc leads.0) shown n (shape pc (transfer_of pc leads.0) shown local.pc leads.2)
     (shape pc (transfer_of pc leads.0) n (pc_from (places_of walk t) tw.after (suc k)) (goes tw))
     (λ (x y : PathItem) (p : item_of shown ≡ Some x) (q : item_of n ≡ Some y).
-      let path : next_item log (events_along (told log walk) done) t ≡ Some y =
-      ap (λ (xs : List PathItem). slice_get xs (length (path_of t (events_along (told log walk) done)))) (sym tw.path)
-      ∙ ap (λ (xs : List PathItem). slice_get (path_of t (events_from t 0 (notes_of walk t))) (length xs)) (path_along log walk t done follows.built follows.counted)
-      ∙ path_at t 0 (notes_of walk t) k y within q in
-      same_Some x y (sym (next.item x p) ∙ path))
+    let path : next_item log (events_along (told log walk) done) t ≡ Some y =
+    ap (λ (xs : List PathItem). slice_get xs (length (path_of t (events_along (told log walk) done)))) (sym tw.path)
+    ∙ ap (λ (xs : List PathItem). slice_get (path_of t (events_from t 0 (notes_of walk t))) (length xs)) (path_along log walk t done follows.built follows.counted)
+    ∙ path_at t 0 (notes_of walk t) k y within q in
+    same_Some x y (sym (next.item x p) ∙ path))
     (λ (c d : Call) (p : called shown ≡ Some c) (q : called n ≡ Some d).
-      let one_is : Among (rec t (thread_at state.core t).retired c) log.calls = among_at log.calls _ (rec t (thread_at state.core t).retired c) (next.call c p) in
-      let shows : n ≡ note.Called d = called_is n d q in
-      let other_is : Among (rec t k d) log.calls = place_called image log walk is (next_of t done) d (here ∙ shows) in
-      ap (λ (r : CallRec). r.call) (one_record log.calls fit.rising (rec t (thread_at state.core t).retired c) (rec t k d) one_is other_is refl retired)) in
+    let one_is : Among (rec t (thread_at state.core t).retired c) log.calls = among_at log.calls _ (rec t (thread_at state.core t).retired c) (next.call c p) in
+    let shows : n ≡ note.Called d = called_is n d q in
+    let other_is : Among (rec t k d) log.calls = place_called image log walk is (next_of t done) d (here ∙ shows) in
+    ap (λ (r : CallRec). r.call) (one_record log.calls fit.rising (rec t (thread_at state.core t).retired c) (rec t k d) one_is other_is refl retired)) in
     record {
       within = within;
       note = same ∙ sym here;
@@ -338,8 +339,8 @@ step_told image log walk done state t schedule (Goes local writes shown) is fit 
     record {
       note = step_note image state t ∙ ap note_in same ∙ led.note;
       follows = inr (subst (λ (s : Stepped). Follows image log walk (Next t done) s.state)
-      (sym (step_is image state t ∙ ap (λ (o : Outcome). after_effect state (applied state.core t (reserving_by image thread) o)) same))
-      (follows_gone image log walk done state t (reserving_by image thread) local writes shown is fit follows there led makes));
+          (sym (step_is image state t ∙ ap (λ (o : Outcome). after_effect state (applied state.core t (reserving_by image thread) o)) same))
+          (follows_gone image log walk done state t (reserving_by image thread) local writes shown is fit follows there led makes));
     }
 
 pub logged_agrees : (image : Layout) (log : Log) (walk : Walk) (done : List Pos) (state : State) (schedule : List ℕ)
@@ -365,12 +366,15 @@ logged_agrees image log walk done state (t ∷ schedule) is fit follows total e 
     ap (λ (n : Note). let x : Event = record { thread = t; at = thread.retired; note = n } in x) stepped.note
     ∙ ap (λ (k : ℕ). let x : Event = record { thread = t; at = k; note = noted (told log walk) (next_of t done) } in x) (follows.threads t there).0 in
     let rest : differs_from image log next (events_along (told log walk) (Next t done)) schedule ≡ None =
-    ap (λ (x : Event). differs_from image log next (happened ++ x ∷ []) schedule) (sym event) ∙ here.1 in
-    (parts.0, stepped.note, elim stepped.follows [
-      inl halting ↦ (let last : schedule ≡ [] = stops image log next (happened ++ event_of image state t ∷ []) schedule (halted_step image state t (ap halts stepped.note ∙ halting)) here.1 in
-        subst (λ (s : List ℕ). Agrees image (told log walk) next (Next t done) s) (sym last) tt)
-    | inr more ↦ logged_agrees image log walk (Next t done) next schedule is fit more (total_on (told log walk) done t schedule total) rest
-    ])
+    ap (λ (x : Event). differs_from image log next (happened ++ x ∷ []) schedule) (sym event) ∙ here.1 in (
+      parts.0,
+      stepped.note,
+      elim stepped.follows [
+        | inl halting ↦ (let last : schedule ≡ [] = stops image log next (happened ++ event_of image state t ∷ []) schedule (halted_step image state t (ap halts stepped.note ∙ halting)) here.1 in
+            subst (λ (s : List ℕ). Agrees image (told log walk) next (Next t done) s) (sym last) tt)
+        | inr more ↦ logged_agrees image log walk (Next t done) next schedule is fit more (total_on (told log walk) done t schedule total) rest
+      ],
+    )
 
 first_none : (image : Layout) (log : Log) (schedule : List ℕ) → HasLog image log schedule → differs_from image log (opening image (tape_of log)) [] schedule ≡ None
 unfolding first_diff

@@ -68,7 +68,7 @@ bytes_are cells a (suc n) from f same =
     let first : f from ≡ byte_in (cells a) = ap f (let e : from ≡ from + 0 = omega arith in e) ∙ same 0 (omega arith) in
     let rest : bytes_from cells (next a) n ≡ map f (range_with_len (from + 1) n) =
     bytes_are cells (next a) n (from + 1) f (λ (i : ℕ) (less : i < n).
-      ap f (let e : from + 1 + i ≡ from + suc i = omega arith in e) ∙ same (suc i) (omega arith)) in
+    ap f (let e : from + 1 + i ≡ from + suc i = omega arith in e) ∙ same (suc i) (omega arith)) in
     ap (λ (x : ℕ). x ∷ bytes_from cells (next a) n) (sym first) ∙ ap (λ (xs : List ℕ). f from ∷ xs) rest
 
 -- whether an access may be read is the same before and after writes, whatever the bytes

@@ -1,8 +1,8 @@
 -- What a step is made of is recorded to stand before it.
-use Rattle.std.specs.Prelude.{◌≡◌, ◌≢◌, ℕ, zero, suc, ◌+◌, ◌%◌, ◌<◌, ◌≤◌, ◌⊎◌, ◌&&◌, Bool, true, false, not, cond, List, [], ◌∷◌, ◌++◌, length, nat_eq, nat_lt, slice_get, Option, Some, None, option_map, is_some, is_none, Contains, refl}
+use Rattle.std.specs.Prelude.{◌≡◌, ℕ, zero, suc, ◌+◌, ◌<◌, ◌≤◌, Bool, true, false, not, cond, List, [], ◌∷◌, ◌++◌, length, nat_eq, slice_get, Option, Some, None, option_map, is_some, Contains, refl}
 use Rattle.std.specs.List.{find}
 use Rattle.std.proofs.Common.{sym, ◌∙◌, ap, subst, arith, inl, inr, get_or, set, ltb, eqb, eq-eqb}
-use Rattle.std.proofs.lemmas.Bool.{cases_lt, and_parts, eqb-true, ltb-true, ltb-false, false≢true}
+use Rattle.std.proofs.lemmas.Bool.{and_parts, eqb-true, ltb-true, ltb-false, false≢true}
 use Rattle.std.proofs.lemmas.List.{get_or_past, get_or-set_same, get_or-set_other, length-append}
 use Rattle.std.proofs.lemmas.Option.{none-some, same_Some, slice_get_within, get_or_from_slice_get}
 use Rattle.elf_image.specs.Layout.{Layout}
@@ -19,17 +19,16 @@ use Rattle.rv_model.specs.declared.state.Note.{Note}
 use Rattle.rv_model.specs.declared.state.Note.TheVariants as note
 use Rattle.rv_model.specs.declared.hearing.Reply.{Reply}
 use Rattle.rv_model.specs.Calls.{opening_calls, made, end_value, calls_after, reply_to, asked_in}
-use Rattle.rv_model.specs.Run.{logged}
 use Rattle.rv_model.specs.Walk.{Walk, notes_of, makes, maker_of, IsWalk}
 use Rattle.rv_model.specs.CallsFit.{reply_in, after_record, FitsRecord, Pass, CallsFit}
-use Rattle.rv_model.specs.RecordedOrder.{Closure, One, More, Counted, IsStepOf, Edge, InThread, ByCalls, BySpawn, CountedEdge, RecordedOrder}
+use Rattle.rv_model.specs.RecordedOrder.{One, Counted, InThread, ByCalls, BySpawn, RecordedOrder}
 use Rattle.rv_model.proofs.SpawnLemmas.{spawn_makes}
-use Rattle.guided_walk.specs.Told.{Told, told, last_fault, ends, place_of, IsPlace, noted}
+use Rattle.guided_walk.specs.Told.{told, last_fault, ends, place_of, IsPlace, noted}
 use Rattle.guided_walk.specs.Guided.{joins}
-use Rattle.guided_walk.specs.Flow.{FlowEdge, InThread as FlowThread, BySpawn as FlowSpawn, ByJoin, CountedFlow, Needs, NeedsThread, NeedsJoin}
+use Rattle.guided_walk.specs.Flow.{InThread as FlowThread, BySpawn as FlowSpawn, ByJoin, CountedFlow, Needs, NeedsThread, NeedsJoin}
 use Rattle.guided_walk.specs.Along.{HasNeeds}
-use Rattle.guided_walk.proofs.Shared.{joins_is, some_by}
-use Rattle.guided_walk.proofs.Records.{Among, among_at, at_among, found_among, rec}
+use Rattle.guided_walk.proofs.Shared.{joins_is}
+use Rattle.guided_walk.proofs.Records.{Among, at_among, found_among, rec}
 use Rattle.guided_walk.proofs.Facts.{in_log, notes_counted, place_called, CalledAt, called_place, called_noted, made_by_call, ends_by_call}
 use Rattle.guided_walk.proofs.CallOrder.{record_counted}
 
@@ -121,7 +120,6 @@ own_spawn calls (x ∷ xs) zero r entry child pass p e same =
     let makes_it : made calls ≡ child = spawn_makes calls x entry child (ap (λ (y : CallRec). y.call) one ∙ e) pass.0 in
     absurd (omega (arith, makes_it, pass.0.exists, ap (λ (y : CallRec). y.tid) one, same))
 own_spawn calls (x ∷ xs) (suc n) r entry child pass p e same = own_spawn (after_record calls x) xs n r entry child pass.1 p e same
-
 
 one_or_none : (b : Bool) (n : Note) → length (cond b (n ∷ []) []) ≤ 1
 one_or_none true n = omega arith

@@ -1,10 +1,10 @@
 -- The steps of a schedule: each stands once, and they are as many of each thread as the schedule lists.
-use Rattle.std.specs.Prelude.{◌≡◌, ◌≢◌, ℕ, zero, suc, ◌+◌, ◌<◌, ◌≤◌, ◌⊎◌, Bool, true, false, cond, List, [], ◌∷◌, ◌++◌, nat_eq, refl}
+use Rattle.std.specs.Prelude.{◌≡◌, ℕ, suc, ◌+◌, ◌<◌, ◌≤◌, ◌⊎◌, Bool, true, false, cond, List, [], ◌∷◌, ◌++◌, nat_eq, refl}
 use Rattle.std.proofs.Common.{sym, ◌∙◌, ap, subst, arith, inl, inr, eqb, eq-eqb}
-use Rattle.std.proofs.lemmas.Bool.{cases_lt, eqb-true, ne_eqb, false≢true}
+use Rattle.std.proofs.lemmas.Bool.{cases_lt, eqb-true, false≢true}
 use Rattle.odr_log.specs.declared.log.Pos.{Pos}
 use Rattle.guided_walk.specs.Orders.{In, Keeps, Distinct}
-use Rattle.guided_walk.specs.Schedules.{count, next_of, places_after, places, times}
+use Rattle.guided_walk.specs.Schedules.{count, next_of, places_after, times}
 use Rattle.guided_walk.proofs.Table.{same_pos}
 use Rattle.guided_walk.proofs.Along.{Next, count_own}
 
@@ -22,10 +22,11 @@ place_from done (t ∷ schedule) p (inr i) =
 
 pub distinct_places : (done : List Pos) (schedule : List ℕ) → Distinct (places_after done schedule)
 distinct_places done [] = tt
-distinct_places done (t ∷ schedule) =
-    (λ (i : In (next_of t done) (places_after (Next t done) schedule)).
+distinct_places done (t ∷ schedule) = (
+  λ (i : In (next_of t done) (places_after (Next t done) schedule)).
       absurd (omega (arith, place_from (Next t done) schedule (next_of t done) i, count_own t done)),
-     distinct_places (Next t done) schedule)
+  distinct_places (Next t done) schedule,
+)
 
 step_more : (u t n m : ℕ) (done : List Pos) → (b : Bool) → n < cond b (suc (count u done)) (count u done) + m → n < count u done + cond b (suc m) m
 step_more u t n m done true less = omega (arith, less)
@@ -50,8 +51,8 @@ place_on : (done : List Pos) (t : ℕ) (schedule : List ℕ) (p : Pos) → (b : 
 place_on done t schedule p true e from below later =
     let same : t ≡ p.thread = eqb-true t p.thread e in
     elim (cases_lt (count p.thread done) p.step) [
-      inl less ↦ inr (later (omega (arith, less)) (omega (arith, below)))
-    | inr le ↦ inl (same_pos (next_of t done) p (sym same) (let at : p.step ≡ count p.thread done = omega (arith, le, from) in at ∙ ap (λ (u : ℕ). count u done) (sym same)))
+      | inl less ↦ inr (later (omega (arith, less)) (omega (arith, below)))
+      | inr le ↦ inl (same_pos (next_of t done) p (sym same) (let at : p.step ≡ count p.thread done = omega (arith, le, from) in at ∙ ap (λ (u : ℕ). count u done) (sym same)))
     ]
 place_on done t schedule p false e from below later = inr (later from below)
 
@@ -96,15 +97,17 @@ in_left p (x ∷ xs) ys (inr i) = inr (in_left p xs ys i)
 -- a list that keeps an order keeps each one that is in it
 pub keeps_by : (R S : Pos → Pos → Type 0) (xs : List Pos) → ((q p : Pos) → In q xs → In p xs → S q p → R q p) → Keeps R xs → Keeps S xs
 keeps_by R S [] within keeps = tt
-keeps_by R S (x ∷ xs) within keeps =
-    (λ (q : Pos) (i : In q xs) (s : S q x). keeps.0 q i (within q x (inr i) (inl refl) s),
-     keeps_by R S xs (λ (q p : Pos) (i : In q xs) (j : In p xs). within q p (inr i) (inr j)) keeps.1)
+keeps_by R S (x ∷ xs) within keeps = (
+  λ (q : Pos) (i : In q xs) (s : S q x). keeps.0 q i (within q x (inr i) (inl refl) s),
+  keeps_by R S xs (λ (q p : Pos) (i : In q xs) (j : In p xs). within q p (inr i) (inr j)) keeps.1,
+)
 
 pub keeps_push : (R : Pos → Pos → Type 0) (xs : List Pos) (x : Pos) → Keeps R xs → ((y : Pos) → In y xs → R x y → ⊥) → Keeps R (xs ++ x ∷ [])
 keeps_push R [] x keeps last = (λ (q : Pos) (i : In q []) (r : R q x). absurd i, tt)
-keeps_push R (y ∷ xs) x keeps last =
-    (λ (q : Pos) (i : In q (xs ++ x ∷ [])) (r : R q y). elim (in-append q xs (x ∷ []) i) [
-      inl j ↦ keeps.0 q j r
+keeps_push R (y ∷ xs) x keeps last = (
+  λ (q : Pos) (i : In q (xs ++ x ∷ [])) (r : R q y). elim (in-append q xs (x ∷ []) i) [
+    | inl j ↦ keeps.0 q j r
     | inr j ↦ elim j [ inl e ↦ last y (inl refl) (subst (λ (z : Pos). R z y) (sym e) r) | inr none ↦ absurd none ]
-    ],
-     keeps_push R xs x keeps.1 (λ (z : Pos) (i : In z xs). last z (inr i)))
+  ],
+  keeps_push R xs x keeps.1 (λ (z : Pos) (i : In z xs). last z (inr i)),
+)

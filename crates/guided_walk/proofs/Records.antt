@@ -1,19 +1,16 @@
 -- The calls of a walk's notes are the records of the log, each at its place.
-use Rattle.std.specs.Prelude.{◌≡◌, ◌≢◌, ℕ, zero, suc, ◌+◌, ◌<◌, ◌≤◌, ◌⊎◌, ◌&&◌, Bool, true, false, cond, List, [], ◌∷◌, ◌++◌, length, nat_eq, filter, slice_get, slice_index_or, Option, Some, None, option_map, AllPairs, Contains, refl}
+use Rattle.std.specs.Prelude.{◌≡◌, ℕ, zero, suc, ◌+◌, ◌<◌, ◌⊎◌, Bool, true, false, cond, List, [], ◌∷◌, length, filter, slice_get, Option, Some, None, AllPairs, refl}
 use Rattle.std.specs.List.{find}
-use Rattle.std.proofs.Common.{sym, ◌∙◌, ap, subst, arith, inl, inr, get_or, eqb, ltb, eq-eqb}
-use Rattle.std.proofs.lemmas.Bool.{cases_lt, eqb-true, ltb-true, ltb-false, lt-ltb, false≢true}
-use Rattle.std.proofs.lemmas.Option.{none-some, same_Some, slice_get_within, get_or_from_slice_get, slice_get_read}
+use Rattle.std.proofs.Common.{sym, ◌∙◌, ap, subst, arith, inl, inr, get_or}
+use Rattle.std.proofs.lemmas.Bool.{cases_lt, false≢true}
+use Rattle.std.proofs.lemmas.Option.{none-some, same_Some, slice_get_within, get_or_from_slice_get}
 use Rattle.odr_log.specs.declared.log.Call.{Call}
-use Rattle.odr_log.specs.declared.log.Call.TheVariants as call
 use Rattle.odr_log.specs.declared.log.CallRec.{CallRec}
-use Rattle.odr_log.specs.declared.log.Log.{Log}
-use Rattle.odr_log.specs.declared.log.Pos.{Pos}
 use Rattle.rv_model.specs.declared.state.Event.{Event}
 use Rattle.rv_model.specs.declared.state.Note.{Note}
 use Rattle.rv_model.specs.declared.state.Note.TheVariants as note
 use Rattle.rv_model.specs.Run.{records_of, record_in, cons_some}
-use Rattle.rv_model.specs.Walk.{events_from, records_by}
+use Rattle.rv_model.specs.Walk.{events_from}
 
 -- ---- members of lists
 
@@ -141,8 +138,8 @@ pub records_noted : (thread step : ℕ) (notes : List Note) (r : CallRec) → Am
 records_noted thread step [] r has = absurd has
 records_noted thread step (n ∷ notes) r has =
     elim (now_or_later (record_in (record { thread = thread; at = step; note = n })) (records_of (events_from thread (step + 1) notes)) r has) [
-      inl now ↦ noted_now thread step n notes r now
-    | inr later ↦ noted_later thread step n notes r (records_noted thread (step + 1) notes r later)
+      | inl now ↦ noted_now thread step n notes r now
+      | inr later ↦ noted_later thread step n notes r (records_noted thread (step + 1) notes r later)
     ]
 
 -- ---- one record at a place
@@ -160,10 +157,10 @@ pub same_number : (xs : List CallRec) → AllPairs (λ earlier later. earlier.ti
     → (i j : ℕ) (r s : CallRec) → slice_get xs i ≡ Some r → slice_get xs j ≡ Some s → r.tid ≡ s.tid → r.at ≡ s.at → i ≡ j
 same_number xs rising i j r s p q same at =
     elim (cases_lt i j) [
-      inl less ↦ absurd (omega (arith, rising_once xs rising i j r s p q same less, at))
-    | inr le ↦ elim (cases_lt j i) [
-        inl more ↦ absurd (omega (arith, rising_once xs rising j i s r q p (sym same) more, at))
-      | inr ge ↦ omega (arith, le, ge)
+      | inl less ↦ absurd (omega (arith, rising_once xs rising i j r s p q same less, at))
+      | inr le ↦ elim (cases_lt j i) [
+        | inl more ↦ absurd (omega (arith, rising_once xs rising j i s r q p (sym same) more, at))
+        | inr ge ↦ omega (arith, le, ge)
       ]
     ]
 

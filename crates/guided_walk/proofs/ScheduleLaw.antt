@@ -1,10 +1,9 @@
 -- A schedule that is woven has the log exactly where a guided walk fits it.
-use Rattle.std.specs.Prelude.{◌≡◌, ◌↔◌, ℕ, zero, suc, ◌+◌, ◌<◌, ◌≤◌, ◌⊎◌, Bool, true, false, cond, List, [], ◌∷◌, ◌++◌, length, map, drop, nat_eq, slice_get, Option, Some, None, refl}
-use Rattle.std.proofs.Common.{sym, ◌∙◌, ap, subst, arith, inl, inr, ltb, eqb, eq-eqb}
+use Rattle.std.specs.Prelude.{◌≡◌, ℕ, suc, ◌+◌, ◌<◌, ◌≤◌, Bool, true, false, cond, List, [], ◌∷◌, ◌++◌, length, nat_eq, slice_get, Some, refl}
+use Rattle.std.proofs.Common.{sym, ◌∙◌, ap, subst, arith, inl, inr, ltb}
 use Rattle.std.proofs.lemmas.Bool.{ltb-true, ltb-false}
 use Rattle.std.proofs.lemmas.List.{get_or_past, append-nil, length-append}
 use Rattle.elf_image.specs.Layout.{Layout}
-use Rattle.odr_log.specs.declared.log.Cause.{Cause}
 use Rattle.odr_log.specs.declared.log.CallRec.{CallRec}
 use Rattle.odr_log.specs.declared.log.End.{End}
 use Rattle.odr_log.specs.declared.log.End.TheVariants as end
@@ -17,28 +16,27 @@ use Rattle.rv_model.specs.declared.state.Note.TheVariants as note
 use Rattle.rv_model.specs.Run.{logged, nothing_logged, records_of, HasLog}
 use Rattle.rv_model.specs.Walk.{Walk, notes_of, IsWalk}
 use Rattle.rv_model.specs.CallsFit.{CallsFit}
-use Rattle.rv_model.specs.RecordedOrder.{Closure, One, More, Counted, CountedEdge, RecordedOrder}
-use Rattle.guided_walk.specs.Told.{Told, told, last_fault, place_of, IsPlace, noted}
-use Rattle.guided_walk.specs.Orders.{In, Keeps, Distinct}
+use Rattle.rv_model.specs.RecordedOrder.{One, More, Counted, RecordedOrder}
+use Rattle.guided_walk.specs.Told.{told, last_fault, place_of, IsPlace}
+use Rattle.guided_walk.specs.Orders.{In, Keeps}
 use Rattle.guided_walk.specs.Schedules.{count, next_of, places_after, places, times}
 use Rattle.guided_walk.specs.Flow.{Needs}
 use Rattle.guided_walk.specs.Fits.{Explained}
-use Rattle.guided_walk.specs.Ordered.{ExitLast}
 use Rattle.guided_walk.specs.Law.{ScheduleLaw}
 use Rattle.guided_walk.specs.Woven.{faulting, Woven}
-use Rattle.guided_walk.proofs.Table.{Settled, settled_by, apart_none}
+use Rattle.guided_walk.proofs.Table.{settled_by, apart_none}
 use Rattle.guided_walk.proofs.Along.{Next}
 use Rattle.guided_walk.proofs.Agree.{agrees_explained, explained_agrees}
-use Rattle.guided_walk.proofs.Records.{Among, among_at}
+use Rattle.guided_walk.proofs.Records.{among_at}
 use Rattle.guided_walk.proofs.Facts.{past_notes, notes_counted, CalledAt, called_place, sound_by}
-use Rattle.guided_walk.proofs.Logged.{told_event, events_along, Built}
+use Rattle.guided_walk.proofs.Logged.{events_along}
 use Rattle.guided_walk.proofs.LoggedRun.{Total, has_agrees}
 use Rattle.guided_walk.proofs.Whole.{all_done, FaultHere}
 use Rattle.guided_walk.proofs.WholeLog.{agrees_has}
-use Rattle.guided_walk.proofs.Placing.{distinct_places, place_below, place_in, times-append, done_after, places-append, in-append, in_left, keeps_by, keeps_push}
+use Rattle.guided_walk.proofs.Placing.{distinct_places, place_below, place_in, times-append, done_after, places-append, keeps_by, keeps_push}
 use Rattle.guided_walk.proofs.CallOrder.{events_all, Splits, calls_in_order}
-use Rattle.guided_walk.proofs.NeedsOrder.{need_is, needs_are, counted_place}
-use Rattle.guided_walk.proofs.Standing.{Threads, threads_opening, FaultLast, ToCome, suits_along}
+use Rattle.guided_walk.proofs.NeedsOrder.{need_is, needs_are}
+use Rattle.guided_walk.proofs.Standing.{threads_opening, FaultLast, ToCome, suits_along}
 
 -- ---- how many steps
 
@@ -86,7 +84,7 @@ tail_keeps : (log : Log) (ended : End) (counted : List ℕ) → (R : Pos → Pos
 tail_keeps log (end.Faulted t fault) counted R keeps within =
     keeps_push R (places counted) (next_of t (done_after [] counted)) keeps
     (λ (y : Pos) (i : In y (places counted)) (r : R (next_of t (done_after [] counted)) y).
-      absurd (omega (arith, within (next_of t (done_after [] counted)) y r, done_count t [] counted)))
+    absurd (omega (arith, within (next_of t (done_after [] counted)) y r, done_count t [] counted)))
 tail_keeps log (end.Exited t code) counted R keeps within = subst (Keeps R) (sym (append-nil (places counted))) keeps
 tail_keeps log end.AllDone counted R keeps within = subst (Keeps R) (sym (append-nil (places counted))) keeps
 tail_keeps log end.Cut counted R keeps within = subst (Keeps R) (sym (append-nil (places counted))) keeps
@@ -121,16 +119,16 @@ placed image log walk pairs schedule is fit woven =
     let keeps : Keeps (RecordedOrder log) (places schedule) =
     subst (Keeps (RecordedOrder log)) (sym list_is)
     (tail_keeps log log.end counted (RecordedOrder log) woven.recorded
-      (λ (p q : Pos) (r : RecordedOrder log p q). omega (arith, from_counted log p q r, woven.steps p.thread))) in
+    (λ (p q : Pos) (r : RecordedOrder log p q). omega (arith, from_counted log p q r, woven.steps p.thread))) in
     let counted_in : (p : Pos) → In p (places counted) → Counted log p =
     λ (p : Pos) (i : In p (places counted)). omega (arith, place_below [] counted p i, woven.steps p.thread) in
     let needs : Keeps (NeedsAt log walk) (places schedule) =
     subst (Keeps (NeedsAt log walk)) (sym list_is)
     (tail_keeps log log.end counted (NeedsAt log walk)
-      (keeps_by (RecordedOrder log) (NeedsAt log walk) (places counted)
-        (λ (q p : Pos) (i : In q (places counted)) (j : In p (places counted)) (n : NeedsAt log walk q p). (need_is image log walk is fit q p n.0 n.1).before (counted_in p j))
-        woven.recorded)
-      (λ (p q : Pos) (n : NeedsAt log walk p q). within p (need_is image log walk is fit p q n.0 n.1).within)) in
+    (keeps_by (RecordedOrder log) (NeedsAt log walk) (places counted)
+    (λ (q p : Pos) (i : In q (places counted)) (j : In p (places counted)) (n : NeedsAt log walk q p). (need_is image log walk is fit q p n.0 n.1).before (counted_in p j))
+    woven.recorded)
+    (λ (p q : Pos) (n : NeedsAt log walk p q). within p (need_is image log walk is fit p q n.0 n.1).within)) in
     record {
       total = total;
       come = record {
@@ -142,7 +140,7 @@ placed image log walk pairs schedule is fit woven =
         only = only;
         faults = subst (FaultLast log walk) (sym list_is)
             (fault_last log walk (places counted) log.end (done_after [] counted)
-              (λ (p : Pos) (i : In p (places counted)) (f : FaultHere log walk p). absurd (omega (arith, counted_in p i, f.at, notes_are image log walk is p.thread))));
+            (λ (p : Pos) (i : In p (places counted)) (f : FaultHere log walk p). absurd (omega (arith, counted_in p i, f.at, notes_are image log walk is p.thread))));
         exits = woven.exit_last;
       };
       all = all;
@@ -163,11 +161,12 @@ schedule_law image log walk pairs schedule version is fit woven =
     let split : Splits log [] (places schedule) 0 = first_split image log walk schedule is p in
     let records : records_of (events_along (told log walk) (all_done [] schedule)) ≡ log.calls =
     ap records_of (events_all (told log walk) [] schedule)
-    ∙ calls_in_order image log walk is fit [] (places schedule) 0 p.come.distinct p.come.apart p.come.keeps split in
-    ((λ (has : HasLog image log schedule).
-      agrees_explained image (told log walk) (tape_of log) schedule (sound_by image log walk is fit) p.come.settled p.come.distinct p.come.only p.all
-      (has_agrees image log walk schedule is fit p.total has)),
-     λ (explained : Explained image (told log walk) schedule).
-     agrees_has image log walk schedule is fit version p.total p.come.only records
-     (explained_agrees image (told log walk) (tape_of log) schedule (sound_by image log walk is fit)
-       (suits_along image log walk (tape_of log) [] schedule 0 is fit (threads_opening (told log walk) (tape_of log)) tt p.come split fit.pass) explained))
+    ∙ calls_in_order image log walk is fit [] (places schedule) 0 p.come.distinct p.come.apart p.come.keeps split in (
+      (λ (has : HasLog image log schedule).
+          agrees_explained image (told log walk) (tape_of log) schedule (sound_by image log walk is fit) p.come.settled p.come.distinct p.come.only p.all
+          (has_agrees image log walk schedule is fit p.total has)),
+      λ (explained : Explained image (told log walk) schedule).
+          agrees_has image log walk schedule is fit version p.total p.come.only records
+          (explained_agrees image (told log walk) (tape_of log) schedule (sound_by image log walk is fit)
+          (suits_along image log walk (tape_of log) [] schedule 0 is fit (threads_opening (told log walk) (tape_of log)) tt p.come split fit.pass) explained),
+    )

@@ -1,8 +1,8 @@
 -- The shared state of the calls does not depend on the values with which threads end, but for the values themselves.
-use Rattle.std.specs.Prelude.{◌≡◌, ◌≢◌, ℕ, zero, suc, ◌%◌, ◌<◌, ◌≤◌, ◌⊎◌, ◌&&◌, Bool, true, false, not, cond, List, [], ◌∷◌, ◌++◌, length, map, nat_eq, nat_lt, slice_index_or, take, drop, Option, Some, None, unwrap_or, is_some, is_none, refl}
+use Rattle.std.specs.Prelude.{◌≡◌, ℕ, zero, suc, ◌%◌, ◌≤◌, ◌⊎◌, ◌&&◌, Bool, true, false, not, cond, List, [], ◌∷◌, ◌++◌, length, map, nat_eq, nat_lt, slice_index_or, take, drop, Option, Some, None, unwrap_or, is_some, is_none, refl}
 use Rattle.std.proofs.Common.{sym, ◌∙◌, ap, subst, arith, inl, inr, get_or, set, ltb, eqb, eq-eqb}
 use Rattle.std.proofs.lemmas.Bool.{and_parts, eqb-true, ltb-true, ltb-false, false≢true}
-use Rattle.std.proofs.lemmas.List.{length_push, length-set, length-map, map-set, map-append, get_or-set_same, get_or-set_other, get_or_past}
+use Rattle.std.proofs.lemmas.List.{length-set, length-map, map-set, map-append, get_or-set_same, get_or-set_other, get_or_past}
 use Rattle.std.proofs.lemmas.Option.{none-some, same_Some}
 use Rattle.odr_log.specs.declared.log.Call.{Call}
 use Rattle.odr_log.specs.declared.log.Call.TheVariants as call
@@ -14,14 +14,14 @@ use Rattle.rv_model.specs.declared.state.Note.TheVariants as note
 use Rattle.rv_model.specs.declared.hearing.Asked.{Asked}
 use Rattle.rv_model.specs.declared.hearing.Asked.TheVariants as asked
 use Rattle.rv_model.specs.declared.hearing.Reply.{Reply}
-use Rattle.rv_model.specs.Calls.{opening_calls, made, end_value, is_mutex, is_other, is_thread, owner_of, says, no_reply, waits, reply_to, join_value, calls_after}
+use Rattle.rv_model.specs.Calls.{made, end_value, is_mutex, is_other, is_thread, says, no_reply, waits, reply_to, join_value, calls_after}
 use Rattle.rv_model.specs.Noted.{asked_noted, reply_noted}
-use Rattle.rv_model.specs.Step.{calls_then, child_of}
+use Rattle.rv_model.specs.Step.{calls_then}
 use Rattle.rv_model.proofs.SpawnLemmas.{next_child}
 use Rattle.guided_walk.specs.Told.{Told, IsPlace, noted}
 use Rattle.guided_walk.specs.Guided.{Visits, ended_with, joined_from, joins}
 use Rattle.guided_walk.specs.Orders.{In}
-use Rattle.guided_walk.specs.Run.{calls_along, value_of, record_calls, SuitsAt}
+use Rattle.guided_walk.specs.Run.{calls_along, value_of, SuitsAt}
 use Rattle.guided_walk.proofs.Along.{Sound, MakesNext, MakesOne, MakesNone}
 
 -- the same but for the values with which threads ended
@@ -192,8 +192,8 @@ pub ended_is : (told : Told) (v : Visits) (tape : List ℕ) (done : List Pos) �
 ended_is told v tape [] sound places u x e = absurd (none_first u x e)
 ended_is told v tape (p ∷ done) sound places u x e =
     elim (end_then (calls_along told (value_of v) tape done) p.thread (value_of v p) (noted told p) u x e) [
-      inl was ↦ ended_is told v tape done sound (λ (q : Pos) (i : In q done). places q (inr i)) u x was
-    | inr now ↦ now.2 ∙ ap (ended_with v) (sym (ap told.ender now.1 ∙ sound.one_ender p (places p (inl refl)) now.0))
+      | inl was ↦ ended_is told v tape done sound (λ (q : Pos) (i : In q done). places q (inr i)) u x was
+      | inr now ↦ now.2 ∙ ap (ended_with v) (sym (ap told.ender now.1 ∙ sound.one_ender p (places p (inl refl)) now.0))
     ]
 
 -- ---- what a join is answered

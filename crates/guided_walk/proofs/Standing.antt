@@ -1,10 +1,9 @@
 -- In a woven schedule each step can stand where it does.
-use Rattle.std.specs.Prelude.{◌≡◌, ◌≢◌, ℕ, zero, suc, ◌+◌, ◌%◌, ◌<◌, ◌≤◌, ◌⊎◌, ◌&&◌, Bool, true, false, cond, List, [], ◌∷◌, ◌++◌, length, map, drop, nat_eq, nat_lt, slice_get, slice_index_or, Option, Some, None, option_map, is_some, All, AllPairs, Contains, refl}
-use Rattle.std.specs.List.{fold}
-use Rattle.std.proofs.Common.{sym, ◌∙◌, ap, subst, arith, inl, inr, get_or, set, ltb, eqb, eq-eqb}
-use Rattle.std.proofs.lemmas.Bool.{cases_lt, eqb-true, ltb-true, ltb-false, false≢true}
-use Rattle.std.proofs.lemmas.List.{length_push, length-set, length-append}
-use Rattle.std.proofs.lemmas.Option.{none-some, same_Some}
+use Rattle.std.specs.Prelude.{◌≡◌, ℕ, zero, suc, ◌%◌, ◌<◌, ◌≤◌, ◌⊎◌, ◌&&◌, Bool, true, false, cond, List, [], ◌∷◌, length, drop, nat_eq, nat_lt, Option, Some, None, option_map, All, refl}
+use Rattle.std.proofs.Common.{sym, ◌∙◌, ap, subst, arith, inl, inr, get_or, eq-eqb}
+use Rattle.std.proofs.lemmas.Bool.{false≢true}
+use Rattle.std.proofs.lemmas.List.{length_push, length-set}
+use Rattle.std.proofs.lemmas.Option.{none-some}
 use Rattle.elf_image.specs.Layout.{Layout}
 use Rattle.odr_log.specs.declared.log.Cause.{Cause}
 use Rattle.odr_log.specs.declared.log.Call.{Call}
@@ -14,34 +13,31 @@ use Rattle.odr_log.specs.declared.log.End.{End}
 use Rattle.odr_log.specs.declared.log.End.TheVariants as end
 use Rattle.odr_log.specs.declared.log.Log.{Log}
 use Rattle.odr_log.specs.declared.log.Pos.{Pos}
-use Rattle.odr_log.specs.Tape.{tape_of}
 use Rattle.rv_model.specs.declared.state.Calls.{Calls}
 use Rattle.rv_model.specs.declared.walk.FaultPlace.{FaultPlace}
 use Rattle.rv_model.specs.declared.state.Note.{Note}
 use Rattle.rv_model.specs.declared.state.Note.TheVariants as note
-use Rattle.rv_model.specs.declared.hearing.Asked.{Asked}
 use Rattle.rv_model.specs.declared.hearing.Asked.TheVariants as asked
 use Rattle.rv_model.specs.declared.hearing.Reply.{Reply}
 use Rattle.rv_model.proofs.SpawnLemmas.{next_child}
-use Rattle.rv_model.specs.Calls.{opening_calls, made, end_value, calls_after, waits, reply_to, asked_in}
+use Rattle.rv_model.specs.Calls.{made, end_value, waits, reply_to}
 use Rattle.rv_model.specs.Noted.{asked_noted, reply_noted}
-use Rattle.rv_model.specs.Run.{logged}
 use Rattle.rv_model.specs.Step.{calls_then}
-use Rattle.rv_model.specs.Walk.{Walk, notes_of, places_of, maker_of, is_last, BeginsAt, ThreadWalk, FaultsAt, FaultFits, IsWalk}
-use Rattle.rv_model.specs.CallsFit.{reply_in, after_record, FitsRecord, Pass, CallsFit}
-use Rattle.rv_model.specs.RecordedOrder.{Counted, RecordedOrder}
+use Rattle.rv_model.specs.Walk.{Walk, notes_of, places_of, is_last, BeginsAt, ThreadWalk, FaultFits, IsWalk}
+use Rattle.rv_model.specs.CallsFit.{reply_in, Pass, CallsFit}
+use Rattle.rv_model.specs.RecordedOrder.{RecordedOrder}
 use Rattle.guided_walk.specs.Told.{Told, told, place_of, IsPlace, noted}
 use Rattle.guided_walk.specs.Orders.{In, Keeps, Distinct}
-use Rattle.guided_walk.specs.Schedules.{count, next_of, places_after, places}
+use Rattle.guided_walk.specs.Schedules.{count, next_of, places_after}
 use Rattle.guided_walk.specs.Flow.{Needs, NeedsThread}
 use Rattle.guided_walk.specs.Ordered.{IsExit, ExitLast}
-use Rattle.guided_walk.specs.Run.{calls_along, halts, record_calls, SuitsAt, Suits}
-use Rattle.guided_walk.proofs.Along.{Next, count_own, count_other}
+use Rattle.guided_walk.specs.Run.{halts, record_calls, SuitsAt, Suits}
+use Rattle.guided_walk.proofs.Along.{Next}
 use Rattle.guided_walk.proofs.Table.{Settled, Apart, apart_push}
-use Rattle.guided_walk.proofs.Shared.{end_then, none_first}
-use Rattle.guided_walk.proofs.Walks.{called, called_is}
-use Rattle.guided_walk.proofs.Records.{Among, rec}
-use Rattle.guided_walk.proofs.Facts.{in_log, noted_step, call_counted, place_called, called_noted, maker_is, last_once}
+use Rattle.guided_walk.proofs.Shared.{end_then}
+use Rattle.guided_walk.proofs.Walks.{called}
+use Rattle.guided_walk.proofs.Records.{rec}
+use Rattle.guided_walk.proofs.Facts.{in_log, noted_step, call_counted, place_called, called_noted, last_once}
 use Rattle.guided_walk.proofs.Logged.{Built}
 use Rattle.guided_walk.proofs.Whole.{FaultHere, place_kind, not_fault}
 use Rattle.guided_walk.proofs.CallOrder.{Splits, SplitsOn, NoCall, ACall, splits_on, drop_at}
@@ -107,15 +103,15 @@ end_or_none (Some x) = inr (x, refl)
 ended_now : (told : Told) (tape : List ℕ) (done : List Pos) (p : Pos) (u : ℕ) → Threads told tape done
     → end_value (record_calls told tape (p ∷ done)) u ≡ None ⊎ ((q : Pos) × In q (p ∷ done) × (q.thread ≡ u) × (noted told q ≡ note.Called call.EndThread))
 ended_now told tape done p u threads = elim (end_or_none (end_value (record_calls told tape (p ∷ done)) u)) [
-      inl none ↦ inl none
-    | inr some ↦ elim (end_then (record_calls told tape done) p.thread 0 (noted told p) u some.0 some.1) [
-        inl was ↦ elim (threads.ended u) [
-          inl none ↦ absurd (none-some some.0 (sym none ∙ was))
-        | inr older ↦ inr (older.0, inr older.1, older.2, older.3)
-        ]
-      | inr now ↦ inr (p, inl refl, sym now.1, now.0)
-      ]
+  | inl none ↦ inl none
+  | inr some ↦ elim (end_then (record_calls told tape done) p.thread 0 (noted told p) u some.0 some.1) [
+    | inl was ↦ elim (threads.ended u) [
+      | inl none ↦ absurd (none-some some.0 (sym none ∙ was))
+      | inr older ↦ inr (older.0, inr older.1, older.2, older.3)
     ]
+    | inr now ↦ inr (p, inl refl, sym now.1, now.0)
+  ]
+]
 
 pub threads_on : (told : Told) (tape : List ℕ) (done : List Pos) (p : Pos) → Threads told tape done → SuitsAt told (record_calls told tape done) p → Threads told tape (p ∷ done)
 threads_on told tape done p threads suits =
@@ -124,14 +120,14 @@ threads_on told tape done p threads suits =
     record {
       some = omega (arith, threads.some, more);
       stepped = λ (q : Pos) (i : In q (p ∷ done)). elim i [
-        inl e ↦ subst (λ (r : Pos). r.thread < made (record_calls told tape (p ∷ done))) e (omega (arith, suits.exists, more))
-      | inr j ↦ omega (arith, threads.stepped q j, more)
+        | inl e ↦ subst (λ (r : Pos). r.thread < made (record_calls told tape (p ∷ done))) e (omega (arith, suits.exists, more))
+        | inr j ↦ omega (arith, threads.stepped q j, more)
       ];
       spawned = λ (q : Pos) (entry child : ℕ) (i : In q (p ∷ done)) (e : noted told q ≡ note.Called (call.Spawn entry (Some child))). elim i [
-        inl same ↦ (let here : noted told p ≡ note.Called (call.Spawn entry (Some child)) = ap (noted told) same ∙ e in
-          spawn_made calls p.thread child entry (noted told p) here
-          (next_made calls p.thread entry child (subst (λ (n : Note). reply_to calls p.thread (asked_noted n) ≡ reply_noted n) here suits.answered)))
-      | inr j ↦ omega (arith, threads.spawned q entry child j e, more)
+        | inl same ↦ (let here : noted told p ≡ note.Called (call.Spawn entry (Some child)) = ap (noted told) same ∙ e in
+            spawn_made calls p.thread child entry (noted told p) here
+            (next_made calls p.thread entry child (subst (λ (n : Note). reply_to calls p.thread (asked_noted n) ≡ reply_noted n) here suits.answered)))
+        | inr j ↦ omega (arith, threads.spawned q entry child j e, more)
       ];
       ended = λ (u : ℕ). ended_now told tape done p u threads;
     }
@@ -155,9 +151,9 @@ faults_in image log walk t fault is e = by_place image log walk t fault walk.fau
 
 place_in_log : (image : Layout) (log : Log) (walk : Walk) → IsWalk image log walk → (p : Pos) → IsPlace (told log walk) p → p.thread < length log.threads
 place_in_log image log walk is p place = elim (place_kind log walk p place) [
-      inl within ↦ in_log image log walk is p.thread p.step within
-    | inr fault ↦ (faults_in image log walk p.thread fault.fault is fault.ends).0
-    ]
+  | inl within ↦ in_log image log walk is p.thread p.step within
+  | inr fault ↦ (faults_in image log walk p.thread fault.fault is fault.ends).0
+]
 
 -- no step stands behind the end of its thread
 not_ended : (image : Layout) (log : Log) (walk : Walk) → IsWalk image log walk → (p q : Pos) → IsPlace (told log walk) p → q.thread ≡ p.thread → q.step < p.step
@@ -170,8 +166,8 @@ not_ended image log walk is p q place same less e =
     ap (λ (t : ℕ). get_or (notes_of walk t) q.step note.Nothing) (sym same) ∙ sym (noted_step log walk q inside) ∙ e in
     let last : is_last (get_or (notes_of walk u) q.step note.Nothing) ≡ true = ap is_last note_is in
     elim (place_kind log walk p place) [
-      inl counted ↦ last_once (notes_of walk u) (is.each u (in_log image log walk is u p.step counted)).ends q.step p.step less counted last
-    | inr fault ↦ false≢true (sym ((faults_in image log walk u fault.fault is fault.ends).1 q.step note.Nothing within) ∙ last)
+      | inl counted ↦ last_once (notes_of walk u) (is.each u (in_log image log walk is u p.step counted)).ends q.step p.step less counted last
+      | inr fault ↦ false≢true (sym ((faults_in image log walk u fault.fault is fault.ends).1 q.step note.Nothing within) ∙ last)
     ]
 
 -- steps done stand before the next of their thread
@@ -179,9 +175,9 @@ built_below : (done : List Pos) → Built done → (q : Pos) → In q done → q
 built_below (p ∷ done) built q (inl e) =
     subst (λ (r : Pos). r.step < count r.thread (p ∷ done)) e
     (own_below p done built.0 (nat_eq p.thread p.thread) (eq-eqb p.thread p.thread refl)) where
-  own_below : (p : Pos) (done : List Pos) → p.step ≡ count p.thread done → (b : Bool) → b ≡ true → p.step < cond b (suc (count p.thread done)) (count p.thread done)
-  own_below p done e true same = omega (arith, e)
-  own_below p done e false same = absurd (false≢true same)
+      own_below : (p : Pos) (done : List Pos) → p.step ≡ count p.thread done → (b : Bool) → b ≡ true → p.step < cond b (suc (count p.thread done)) (count p.thread done)
+      own_below p done e true same = omega (arith, e)
+      own_below p done e false same = absurd (false≢true same)
 built_below (p ∷ done) built q (inr i) = more_below (nat_eq p.thread q.thread) (built_below done built.1 q i) where
   more_below : (b : Bool) → q.step < count q.thread done → q.step < cond b (suc (count q.thread done)) (count q.thread done)
   more_below true less = omega (arith, less)
@@ -231,9 +227,9 @@ suits_quiet image log walk tape done t is fit threads built place needs quiet =
       place = place;
       exists = made_before image log walk tape done t is fit threads place needs (count t done) refl;
       live = elim (threads.ended t) [
-        inl none ↦ none
-      | inr older ↦ absurd (not_ended image log walk is p older.0 place older.2
-          (subst (λ (u : ℕ). older.0.step < count u done) older.2 (built_below done built older.0 older.1)) older.3)
+        | inl none ↦ none
+        | inr older ↦ absurd (not_ended image log walk is p older.0 place older.2
+            (subst (λ (u : ℕ). older.0.step < count u done) older.2 (built_below done built older.0 older.1)) older.3)
       ];
       ready = ap (waits calls t) (quiet_asks (noted (told log walk) p) quiet);
       answered = quiet_replies calls t (noted (told log walk) p) quiet;
@@ -254,7 +250,6 @@ abbrev pub FaultLast : Log → Walk → List Pos → Type 0
 FaultLast log walk [] = Unit {0}
 FaultLast log walk (p ∷ later) = (FaultHere log walk p → later ≡ []) × FaultLast log walk later
 
-
 -- ---- along the schedule
 
 quiet_then : (calls : Calls) (t : ℕ) (n : Note) → called n ≡ None → calls_then calls t 0 n ≡ calls
@@ -270,9 +265,9 @@ halt_last : (image : Layout) (log : Log) (walk : Walk) → IsWalk image log walk
 halt_last image log walk is p later place faults exits (note.Called (call.Exit code)) e h =
     exits (code, among_contains log.calls (rec p.thread p.step (call.Exit code)) (place_called image log walk is p (call.Exit code) e))
 halt_last image log walk is p later place faults exits (note.Faulted fault) e h = elim (place_kind log walk p place) [
-      inl within ↦ absurd (not_fault image log walk is p.thread p.step within fault (sym (noted_step log walk p within) ∙ e))
-    | inr here ↦ faults here
-    ]
+  | inl within ↦ absurd (not_fault image log walk is p.thread p.step within fault (sym (noted_step log walk p within) ∙ e))
+  | inr here ↦ faults here
+]
 halt_last image log walk is p later place faults exits note.Nothing e h = absurd (false≢true h)
 halt_last image log walk is p later place faults exits (note.Branch taken) e h = absurd (false≢true h)
 halt_last image log walk is p later place faults exits (note.Jump target) e h = absurd (false≢true h)
@@ -316,25 +311,27 @@ suits_step : (image : Layout) (log : Log) (walk : Walk) (tape : List ℕ) (done 
     → Threads (told log walk) tape done → Built done → ToCome log walk done (next_of t done ∷ later) → Pass (record_calls (told log walk) tape done) (drop n log.calls)
     → SplitsOn log walk done (next_of t done) later n
     → ((m : ℕ) → SuitsAt (told log walk) (record_calls (told log walk) tape done) (next_of t done) → Splits log (Next t done) later m
-        → Pass (record_calls (told log walk) tape (Next t done)) (drop m log.calls) → Suits (told log walk) tape (Next t done) later)
+    → Pass (record_calls (told log walk) tape (Next t done)) (drop m log.calls) → Suits (told log walk) tape (Next t done) later)
     → Suits (told log walk) tape done (next_of t done ∷ later)
 suits_step image log walk tape done t later n is fit threads built come pass (NoCall quiet s) again =
     let p : Pos = next_of t done in
     let calls : Calls = record_calls (told log walk) tape done in
     let place : IsPlace (told log walk) p = come.only p (inl refl) in
-    let suits : SuitsAt (told log walk) calls p = suits_quiet image log walk tape done t is fit threads built place come.settled.0 quiet in
-    (suits,
-     λ (e : halts (noted (told log walk) p) ≡ true). halt_last image log walk is p later place come.faults.0 come.exits.0 (noted (told log walk) p) refl e,
-     again n suits s (subst (λ (c : Calls). Pass c (drop n log.calls)) (sym (quiet_then calls t (noted (told log walk) p) quiet)) pass))
+    let suits : SuitsAt (told log walk) calls p = suits_quiet image log walk tape done t is fit threads built place come.settled.0 quiet in (
+      suits,
+      λ (e : halts (noted (told log walk) p) ≡ true). halt_last image log walk is p later place come.faults.0 come.exits.0 (noted (told log walk) p) refl e,
+      again n suits s (subst (λ (c : Calls). Pass c (drop n log.calls)) (sym (quiet_then calls t (noted (told log walk) p) quiet)) pass),
+    )
 suits_step image log walk tape done t later n is fit threads built come pass (ACall {made = made} shows at s) again =
     let p : Pos = next_of t done in
     let calls : Calls = record_calls (told log walk) tape done in
     let place : IsPlace (told log walk) p = come.only p (inl refl) in
     let here : Pass calls (rec p.thread p.step made ∷ drop (suc n) log.calls) = subst (Pass calls) (drop_at log.calls n (rec p.thread p.step made) at) pass in
-    let suits : SuitsAt (told log walk) calls p = suits_call log walk calls p made (drop (suc n) log.calls) place shows here in
-    (suits,
-     λ (e : halts (noted (told log walk) p) ≡ true). halt_last image log walk is p later place come.faults.0 come.exits.0 (noted (told log walk) p) refl e,
-     again (suc n) suits s (subst (λ (m : Note). Pass (calls_then calls t 0 m) (drop (suc n) log.calls)) (sym shows) here.1))
+    let suits : SuitsAt (told log walk) calls p = suits_call log walk calls p made (drop (suc n) log.calls) place shows here in (
+      suits,
+      λ (e : halts (noted (told log walk) p) ≡ true). halt_last image log walk is p later place come.faults.0 come.exits.0 (noted (told log walk) p) refl e,
+      again (suc n) suits s (subst (λ (m : Note). Pass (calls_then calls t 0 m) (drop (suc n) log.calls)) (sym shows) here.1),
+    )
 
 pub suits_along : (image : Layout) (log : Log) (walk : Walk) (tape : List ℕ) (done : List Pos) (schedule : List ℕ) (n : ℕ) → IsWalk image log walk → CallsFit log
     → Threads (told log walk) tape done → Built done → ToCome log walk done (places_after done schedule) → Splits log done (places_after done schedule) n
@@ -345,4 +342,4 @@ suits_along image log walk tape done (t ∷ schedule) n is fit threads built com
     let later : List Pos = places_after (Next t done) schedule in
     suits_step image log walk tape done t later n is fit threads built come pass (splits_on image log walk is fit done p later n come.apart come.keeps splits)
     (λ (m : ℕ) (suits : SuitsAt (told log walk) (record_calls (told log walk) tape done) p) (s : Splits log (p ∷ done) later m) (rest : Pass (record_calls (told log walk) tape (p ∷ done)) (drop m log.calls)).
-      suits_along image log walk tape (Next t done) schedule m is fit (threads_on (told log walk) tape done p threads suits) (refl, built) (to_come_on log walk done p later come) s rest)
+    suits_along image log walk tape (Next t done) schedule m is fit (threads_on (told log walk) tape done p threads suits) (refl, built) (to_come_on log walk done p later come) s rest)

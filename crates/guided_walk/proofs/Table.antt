@@ -1,5 +1,5 @@
 -- The equations of a walk have one solution, which the walk along any list finds that has each step after what it is made of.
-use Rattle.std.specs.Prelude.{◌≡◌, ◌↔◌, ℕ, zero, suc, ◌⊎◌, Bool, true, false, ◌&&◌, cond, List, [], ◌∷◌, nat_eq, slice_index_or, Option, Some, None, refl}
+use Rattle.std.specs.Prelude.{◌≡◌, ℕ, zero, suc, ◌⊎◌, Bool, true, false, ◌&&◌, cond, List, [], ◌∷◌, nat_eq, slice_index_or, Option, Some, None, refl}
 use Rattle.std.proofs.Common.{sym, ◌∙◌, ap, subst, inl, inr, eq-eqb, eqb-true}
 use Rattle.std.proofs.lemmas.Bool.{and_parts, and_from}
 use Rattle.elf_image.specs.Layout.{Layout}
@@ -10,7 +10,7 @@ use Rattle.rv_model.specs.Calls.{first_argument}
 use Rattle.rv_model.specs.Step.{child_of}
 use Rattle.rv_model.specs.Noted.{note_in}
 use Rattle.guided_walk.specs.Told.{Told, IsPlace, noted}
-use Rattle.guided_walk.specs.Guided.{Given, Seen, Visit, Visits, at, went, handed, begins, seen_before, ended_with, joined_from, joins, visit_from, visit, IsGuided, Guided}
+use Rattle.guided_walk.specs.Guided.{Given, Seen, Visit, Visits, at, went, handed, seen_before, ended_with, joined_from, joins, visit_from, visit, IsGuided, Guided}
 use Rattle.guided_walk.specs.Orders.{In, Keeps, Distinct, Lists}
 use Rattle.guided_walk.specs.Flow.{Needs, NeedsThread, NeedsJoin}
 use Rattle.guided_walk.specs.Along.{put_at, walk_along, HoldsAlong, HasNeeds}
@@ -122,13 +122,13 @@ one_solution image told given v w done (x ∷ ps) settled agree one two p i =
     one x (inl refl) ∙ same_visit image told given v w x (λ (q : Pos) (n : Needs told q x). agree q (settled.0 q n)) ∙ sym (two x (inl refl)) in
     let on : (q : Pos) → In q (x ∷ done) → Agree v w q = λ (q : Pos) (d : In q (x ∷ done)).
     elim d [
-      inl e ↦ record { same = subst (λ (r : Pos). at v r ≡ at w r) e here }
-    | inr older ↦ agree q older
+      | inl e ↦ record { same = subst (λ (r : Pos). at v r ≡ at w r) e here }
+      | inr older ↦ agree q older
     ] in
     elim i [
-      inl e ↦ subst (λ (r : Pos). at v r ≡ at w r) e here
-    | inr later ↦ one_solution image told given v w (x ∷ done) ps settled.1 on
-      (λ (q : Pos) (j : In q ps). one q (inr j)) (λ (q : Pos) (j : In q ps). two q (inr j)) p later
+      | inl e ↦ subst (λ (r : Pos). at v r ≡ at w r) e here
+      | inr later ↦ one_solution image told given v w (x ∷ done) ps settled.1 on
+          (λ (q : Pos) (j : In q ps). one q (inr j)) (λ (q : Pos) (j : In q ps). two q (inr j)) p later
     ]
 
 -- ---- lists that keep an order
@@ -138,26 +138,27 @@ need_done : (before : Pos → Pos → Type 0) (told : Told) → HasNeeds told be
     → ((q : Pos) → IsPlace told q → In q done ⊎ In q (p ∷ later)) → Keeps before (p ∷ later) → IsPlace told p
     → (q : Pos) → Needs told q p → In q done
 need_done before told needs done p later all keeps place q n = elim (all q (needs.places q p place n)) [
-      inl d ↦ d
-    | inr i ↦ elim i [
-        inl e ↦ absurd (needs.no_ring p (subst (λ (r : Pos). before r p) (sym e) (needs.first q p place n)))
-      | inr j ↦ absurd (keeps.0 q j (needs.first q p place n))
-      ]
-    ]
+  | inl d ↦ d
+  | inr i ↦ elim i [
+    | inl e ↦ absurd (needs.no_ring p (subst (λ (r : Pos). before r p) (sym e) (needs.first q p place n)))
+    | inr j ↦ absurd (keeps.0 q j (needs.first q p place n))
+  ]
+]
 
 all_on : (told : Told) (done : List Pos) (p : Pos) (later : List Pos) → ((q : Pos) → IsPlace told q → In q done ⊎ In q (p ∷ later))
     → (q : Pos) → IsPlace told q → In q (p ∷ done) ⊎ In q later
 all_on told done p later all q place = elim (all q place) [
-      inl d ↦ inl (inr d)
-    | inr i ↦ elim i [ inl e ↦ inl (inl e) | inr j ↦ inr j ]
-    ]
+  | inl d ↦ inl (inr d)
+  | inr i ↦ elim i [ inl e ↦ inl (inl e) | inr j ↦ inr j ]
+]
 
 pub settled_by : (before : Pos → Pos → Type 0) (told : Told) → HasNeeds told before → (done ps : List Pos)
     → ((q : Pos) → IsPlace told q → In q done ⊎ In q ps) → Keeps before ps → ((p : Pos) → In p ps → IsPlace told p) → Settled told done ps
 settled_by before told needs done [] all keeps only = tt
-settled_by before told needs done (p ∷ later) all keeps only =
-    (need_done before told needs done p later all keeps (only p (inl refl)),
-    settled_by before told needs (p ∷ done) later (all_on told done p later all) keeps.1 (λ (q : Pos) (i : In q later). only q (inr i)))
+settled_by before told needs done (p ∷ later) all keeps only = (
+  need_done before told needs done p later all keeps (only p (inl refl)),
+  settled_by before told needs (p ∷ done) later (all_on told done p later all) keeps.1 (λ (q : Pos) (i : In q later). only q (inr i)),
+)
 
 pub settled_list : (before : Pos → Pos → Type 0) (told : Told) (ps : List Pos) → HasNeeds told before → Lists (IsPlace told) ps → Keeps before ps → Settled told [] ps
 settled_list before told ps needs lists keeps =
@@ -184,21 +185,28 @@ table_agrees image told given before ps v w needs lists keeps solves p place =
     (along_solves image told given before ps v needs lists keeps) p (lists.all p place)
 
 pub table_law : TableLaw
-table_law image told given before ps v needs lists keeps =
-    ((λ (along : HoldsAlong image told given ps v). (walk_along image told given ps v, record {
+table_law image told given before ps v needs lists keeps = (
+  (
+    λ (along : HoldsAlong image told given ps v). (
+      walk_along image told given ps v,
+      record {
         solves = λ (p : Pos) (place : IsPlace told p). along_solves image told given before ps v needs lists keeps p (lists.all p place);
         shows = λ (p : Pos) (place : IsPlace told p). along p (lists.all p place);
-      }),
-      λ (guided : Guided image told given) (p : Pos) (i : In p ps).
-      ap (λ (x : Visit). note_in x.outcome) (sym (table_agrees image told given before ps v guided.0 needs lists keeps guided.1.solves p (lists.only p i)))
-      ∙ guided.1.shows p (lists.only p i)),
-    λ (visits : Visits) (guided : IsGuided image told given visits). table_agrees image told given before ps v visits needs lists keeps guided.solves)
+      },
+    ),
+    λ (guided : Guided image told given) (p : Pos) (i : In p ps).
+        ap (λ (x : Visit). note_in x.outcome) (sym (table_agrees image told given before ps v guided.0 needs lists keeps guided.1.solves p (lists.only p i)))
+        ∙ guided.1.shows p (lists.only p i),
+  ),
+  λ (visits : Visits) (guided : IsGuided image told given visits). table_agrees image told given before ps v visits needs lists keeps guided.solves,
+)
 
 pub order_law : OrderLaw
 order_law image told given before ps qs v u needs one two keeps kept along =
     let agree : (p : Pos) → IsPlace told p → at (walk_along image told given ps v) p ≡ at (walk_along image told given qs u) p =
     table_agrees image told given before qs u (walk_along image told given ps v) needs two kept
-    (λ (p : Pos) (place : IsPlace told p). along_solves image told given before ps v needs one keeps p (one.all p place)) in
-    (λ (p : Pos) (i : In p qs).
-    ap (λ (x : Visit). note_in x.outcome) (sym (agree p (two.only p i))) ∙ along p (one.all p (two.only p i)),
-    agree)
+    (λ (p : Pos) (place : IsPlace told p). along_solves image told given before ps v needs one keeps p (one.all p place)) in (
+      λ (p : Pos) (i : In p qs).
+          ap (λ (x : Visit). note_in x.outcome) (sym (agree p (two.only p i))) ∙ along p (one.all p (two.only p i)),
+      agree,
+    )

@@ -1,78 +1,57 @@
 -- A run whose steps note what the log's walk has, and of all its steps, has the log.
-use Rattle.std.specs.Prelude.{◌≡◌, ◌≢◌, ℕ, zero, suc, ◌+◌, ◌-◌, ◌<◌, ◌≤◌, ◌⊎◌, ◌&&◌, Bool, true, false, cond, List, [], ◌∷◌, ◌++◌, length, map, take, nat_eq, nat_lt, slice_get, Option, Some, None, is_none, Result, Ok, Err, refl}
-use Rattle.std.proofs.Common.{sym, ◌∙◌, ap, subst, arith, inl, inr, get_or, set, ltb, eqb, eq-eqb}
-use Rattle.std.proofs.lemmas.Bool.{and_parts, eqb-true, ltb-true, ltb-false, false≢true}
-use Rattle.std.proofs.lemmas.List.{length_push, length-append, append-nil, append_assoc}
+use Rattle.std.specs.Prelude.{◌≡◌, ℕ, zero, suc, ◌+◌, ◌-◌, ◌<◌, ◌≤◌, ◌⊎◌, Bool, true, false, cond, List, [], ◌∷◌, ◌++◌, length, nat_eq, Option, Some, None, is_none, Result, Ok, refl}
+use Rattle.std.proofs.Common.{sym, ◌∙◌, ap, subst, arith, inl, inr, get_or, ltb, eqb}
+use Rattle.std.proofs.lemmas.Bool.{eqb-true, ltb-true, ltb-false, false≢true}
+use Rattle.std.proofs.lemmas.List.{length-append, append-nil, append_assoc}
 use Rattle.std.proofs.Math.Seq.{get_or-append_right}
-use Rattle.std.proofs.lemmas.Option.{none-some, same_Some}
+use Rattle.std.proofs.lemmas.Option.{same_Some}
 use Rattle.elf_image.specs.declared.write.Write.{Write}
 use Rattle.elf_image.specs.Layout.{Layout}
 use Rattle.rv32_decode.specs.declared.instr.Instr.{Instr}
 use Rattle.odr_log.specs.declared.log.Cause.{Cause}
-use Rattle.odr_log.specs.declared.log.Call.{Call}
-use Rattle.odr_log.specs.declared.log.Call.TheVariants as call
 use Rattle.odr_log.specs.declared.log.CallRec.{CallRec}
 use Rattle.odr_log.specs.declared.log.End.{End}
 use Rattle.odr_log.specs.declared.log.End.TheVariants as end
 use Rattle.odr_log.specs.declared.log.Log.{Log}
-use Rattle.odr_log.specs.declared.log.PathItem.{PathItem}
-use Rattle.odr_log.specs.declared.log.PathItem.TheVariants as item
 use Rattle.odr_log.specs.declared.log.Pos.{Pos}
-use Rattle.odr_log.specs.Tape.{tape_of}
-use Rattle.odr_log.specs.Same.{same_item, same_rec, same_end}
-use Rattle.odr_log.specs.SameLaws.{same_item-exact, same_rec-exact, same_end-exact}
 use Rattle.rv_model.specs.declared.state.Local.{Local}
 use Rattle.rv_model.specs.declared.state.Thread.{Thread}
-use Rattle.rv_model.specs.declared.state.Calls.{Calls}
-use Rattle.rv_model.specs.declared.state.Core.{Core}
 use Rattle.rv_model.specs.declared.state.Note.{Note}
 use Rattle.rv_model.specs.declared.state.Note.TheVariants as note
 use Rattle.rv_model.specs.declared.state.State.{State}
 use Rattle.rv_model.specs.declared.state.Stepped.{Stepped}
 use Rattle.rv_model.specs.declared.state.Event.{Event}
-use Rattle.rv_model.specs.declared.hearing.Heard.{Heard}
 use Rattle.rv_model.specs.declared.hearing.Outcome.{Outcome}
 use Rattle.rv_model.specs.declared.hearing.Outcome.TheVariants.{Faults, Goes}
-use Rattle.rv_model.specs.declared.walk.Place.{Place}
-use Rattle.rv_model.specs.declared.walk.Transfer.{Transfer}
-use Rattle.rv_model.specs.Thread.{no_thread, losing}
-use Rattle.rv_model.specs.Calls.{made, reply_to, opening_calls, first_argument}
-use Rattle.rv_model.specs.Instruction.{asked_at}
-use Rattle.rv_model.specs.Noted.{note_in, asked_noted, reply_noted, LeadsOn}
-use Rattle.rv_model.specs.Step.{opening, memory_of, instr_at, thread_at, child_of, applied, gone, after_effect, step, is_enabled}
-use Rattle.rv_model.specs.Run.{event_of, item_of, cons_some, path_of, logged, is_counted, next_item, next_record, agrees_by, agrees, fits, differs_from, first_diff, HasLog, option_test}
-use Rattle.rv_model.specs.Walk.{Walk, notes_of, places_of, events_from, transfer_of, goes_to, maker_of, BeginsAt, ThreadWalk, IsWalk}
+use Rattle.rv_model.specs.Calls.{made, first_argument}
+use Rattle.rv_model.specs.Noted.{note_in, LeadsOn}
+use Rattle.rv_model.specs.Step.{opening, memory_of, instr_at, thread_at, applied, gone, after_effect, step}
+use Rattle.rv_model.specs.Run.{event_of, agrees}
+use Rattle.rv_model.specs.Walk.{Walk, notes_of, places_of, transfer_of, goes_to, ThreadWalk, IsWalk}
 use Rattle.rv_model.specs.CallsFit.{CallsFit}
-use Rattle.rv_model.proofs.Progress.{IsQuiet, quiet-act_at, threads_then, own_then, other_then}
-use Rattle.rv_model.proofs.Bounds.{beyond}
-use Rattle.rv_model.proofs.Difference.{no_difference, enabled_within, enabled_goes, step_none, some_passes}
-use Rattle.rv_model.proofs.LogParts.{path_of-append}
-use Rattle.rv_model.proofs.Acts.{asked_act, told_act, walks_on_at}
-use Rattle.guided_walk.specs.Told.{Told, told, last_fault, shown_by, IsPlace, noted}
+use Rattle.rv_model.proofs.Progress.{IsQuiet, quiet-act_at}
+use Rattle.rv_model.proofs.Difference.{enabled_within, enabled_goes}
+use Rattle.rv_model.proofs.Acts.{walks_on_at}
+use Rattle.guided_walk.specs.Told.{Told, told, last_fault, IsPlace, noted}
 use Rattle.guided_walk.specs.Orders.{In}
-use Rattle.guided_walk.specs.Schedules.{count, next_of, places_after, places, times}
+use Rattle.guided_walk.specs.Schedules.{count, next_of, places_after, times}
 use Rattle.guided_walk.specs.Run.{halts, Agrees}
-use Rattle.guided_walk.proofs.Along.{MakesNext, MakesOne, MakesNone, heard_by, outcome_by, reserving_by, step_is, threads_none, threads_one, many_then, more_then, After}
-use Rattle.guided_walk.proofs.Shared.{makes_next}
+use Rattle.guided_walk.proofs.Along.{MakesNext, heard_by, outcome_by, reserving_by, step_is}
 use Rattle.guided_walk.proofs.Agree.{step_note, halted_step, nothing_after}
-use Rattle.guided_walk.proofs.Walks.{pc_from, leads_start, AtStep, leads_step, Shape, shape, fault_shape, called, called_is, one_note}
-use Rattle.guided_walk.proofs.Records.{Among, among_at, rec, one_record}
-use Rattle.guided_walk.proofs.Facts.{in_log, notes_counted, noted_step, place_called, maker_is}
-use Rattle.guided_walk.proofs.Logged.{told_event, events_along, Built, path_along, path_at, each_then}
-use Rattle.guided_walk.proofs.Along.{Next, count_own, count_other}
-use Rattle.std.specs.List.{fold, list_all}
-use Rattle.std.proofs.lemmas.List.Sums.{fold-append}
-use Rattle.std.proofs.lemmas.List.{take_all, ext_get_or}
-use Rattle.odr_log.specs.declared.log.ThreadLog.{ThreadLog}
+use Rattle.guided_walk.proofs.Walks.{pc_from, AtStep, leads_step, shape, fault_shape}
+use Rattle.guided_walk.proofs.Records.{rec}
+use Rattle.guided_walk.proofs.Facts.{in_log, noted_step}
+use Rattle.guided_walk.proofs.Logged.{told_event, events_along}
+use Rattle.guided_walk.proofs.Along.{Next}
 use Rattle.rv_model.specs.declared.state.Halt.{Halt}
 use Rattle.rv_model.specs.declared.state.Halt.TheVariants as halt
-use Rattle.rv_model.specs.Run.{Runs, final, events, record_in, records_of, thread_logs, end_by, end_of, log_of}
+use Rattle.rv_model.specs.Run.{final, events, records_of}
 use Rattle.rv_model.specs.Step.{halt_then, calls_then}
-use Rattle.rv_model.specs.CallsFit.{after_record, final_calls, final_halt, EndFits}
-use Rattle.rv_model.proofs.LogParts.{records_of-append, length-thread_logs, thread_logs-at}
-use Rattle.guided_walk.specs.Run.{calls_along, record_calls}
-use Rattle.guided_walk.proofs.Shared.{Alike, then_alike, made_alike}
-use Rattle.guided_walk.proofs.LoggedRun.{IsAt, Follows, follows_opening, follows_gone, LedOn, Total, not_faulted, makes_by, fault_steps}
+use Rattle.rv_model.specs.CallsFit.{final_halt}
+use Rattle.rv_model.proofs.LogParts.{records_of-append}
+use Rattle.guided_walk.specs.Run.{record_calls}
+use Rattle.guided_walk.proofs.Shared.{Alike, then_alike}
+use Rattle.guided_walk.proofs.LoggedRun.{Follows, follows_gone, LedOn, not_faulted, makes_by}
 
 -- ---- the steps of a whole schedule
 
@@ -193,7 +172,6 @@ led_by image log walk done state t local writes shown is follows there leads wit
           same_Some local.pc (pc_from (places_of walk t) w.after (suc k)) (sym leads.2 ∙ ap (goes_to pc (transfer_of pc leads.0)) same ∙ goes);
     }
 
-
 -- ---- along the schedule
 
 -- The end of a run whose steps note what is told: it has all steps behind it, or all but the fault that it ended in.
@@ -232,13 +210,14 @@ run_falls : (image : Layout) (log : Log) (walk : Walk) (tape : List ℕ) (done :
 run_falls image log walk tape done state t schedule fault follows keeps same notes here last =
     let falls : step image state t ≡ after_effect state (applied state.core t (reserving_by image (thread_at state.core t)) (Faults fault)) =
     step_is image state t ∙ ap (λ (o : Outcome). after_effect state (applied state.core t (reserving_by image (thread_at state.core t)) o)) same in
-    subst (λ (s : List ℕ). RunEnds image log walk tape (Next t done) (step image state t).state s) (sym last)
-    (append-nil (events_along (told log walk) (Next t done)),
-     Fell {done = done} {before = state} {t = t} refl here follows keeps
-     (ap (λ (s : Stepped). s.state.core.threads) falls) (ap (λ (s : Stepped). s.state.core.calls) falls)
-     (λ (other : Cause) (e : log.end ≡ end.Faulted t other).
-       ap (λ (s : Stepped). s.state.core.halt) falls
-       ∙ ap (λ (f : Cause). Some (halt.Faulted t f)) (note_fault fault here.fault (notes ∙ here.note) ∙ fault_same t here.fault other (sym here.ends ∙ e))))
+    subst (λ (s : List ℕ). RunEnds image log walk tape (Next t done) (step image state t).state s) (sym last) (
+      append-nil (events_along (told log walk) (Next t done)),
+      Fell {done = done} {before = state} {t = t} refl here follows keeps
+          (ap (λ (s : Stepped). s.state.core.threads) falls) (ap (λ (s : Stepped). s.state.core.calls) falls)
+          (λ (other : Cause) (e : log.end ≡ end.Faulted t other).
+          ap (λ (s : Stepped). s.state.core.halt) falls
+          ∙ ap (λ (f : Cause). Some (halt.Faulted t f)) (note_fault fault here.fault (notes ∙ here.note) ∙ fault_same t here.fault other (sym here.ends ∙ e))),
+    )
 
 run_on : (image : Layout) (log : Log) (walk : Walk) (tape : List ℕ) (done : List Pos) (state : State) (t : ℕ) (schedule : List ℕ) (o : Outcome)
     → IsWalk image log walk → CallsFit log → Follows image log walk done state → Keeps (told log walk) tape done state → t < length state.core.threads → is_none state.core.halt ≡ true
@@ -248,27 +227,27 @@ run_on : (image : Layout) (log : Log) (walk : Walk) (tape : List ℕ) (done : Li
     → note_in o ≡ noted (told log walk) (next_of t done)
     → (is_none (step image state t).state.core.halt ≡ false → schedule ≡ [])
     → (Follows image log walk (Next t done) (step image state t).state → Keeps (told log walk) tape (Next t done) (step image state t).state
-        → RunEnds image log walk tape (Next t done) (step image state t).state schedule)
+    → RunEnds image log walk tape (Next t done) (step image state t).state schedule)
     → RunEnds image log walk tape (Next t done) (step image state t).state schedule
 run_on image log walk tape done state t schedule (Faults fault) is fit follows keeps there running place same quiet leads notes nothing again =
     elim (place_kind log walk (next_of t done) place) [
-      inl within ↦ absurd (not_fault image log walk is t (count t done) within fault (sym (noted_step log walk (next_of t done) within) ∙ sym notes))
-    | inr here ↦ run_falls image log walk tape done state t schedule fault follows keeps same notes here
-      (nothing (halted_step image state t (ap halts (step_note image state t ∙ ap note_in same))))
+      | inl within ↦ absurd (not_fault image log walk is t (count t done) within fault (sym (noted_step log walk (next_of t done) within) ∙ sym notes))
+      | inr here ↦ run_falls image log walk tape done state t schedule fault follows keeps same notes here
+          (nothing (halted_step image state t (ap halts (step_note image state t ∙ ap note_in same))))
     ]
 run_on image log walk tape done state t schedule (Goes local writes shown) is fit follows keeps there running place same quiet leads notes nothing again =
     elim (place_kind log walk (next_of t done) place) [
-      inl within ↦ (
-        let led : LedOn image log walk done t local shown = led_by image log walk done state t local writes shown is follows there leads within notes in
-        let makes : MakesNext (length state.core.threads) shown = makes_by image state t local writes shown follows.many same in
-        let goes : step image state t ≡ after_effect state (gone state.core t (reserving_by image (thread_at state.core t)) local writes shown) =
-        step_is image state t ∙ ap (λ (o : Outcome). after_effect state (applied state.core t (reserving_by image (thread_at state.core t)) o)) same in
-        again
-        (subst (λ (s : Stepped). Follows image log walk (Next t done) s.state) (sym goes)
+      | inl within ↦ (
+          let led : LedOn image log walk done t local shown = led_by image log walk done state t local writes shown is follows there leads within notes in
+          let makes : MakesNext (length state.core.threads) shown = makes_by image state t local writes shown follows.many same in
+          let goes : step image state t ≡ after_effect state (gone state.core t (reserving_by image (thread_at state.core t)) local writes shown) =
+          step_is image state t ∙ ap (λ (o : Outcome). after_effect state (applied state.core t (reserving_by image (thread_at state.core t)) o)) same in
+          again
+          (subst (λ (s : Stepped). Follows image log walk (Next t done) s.state) (sym goes)
           (follows_gone image log walk done state t (reserving_by image (thread_at state.core t)) local writes shown is fit follows there led makes))
-        (subst (λ (s : Stepped). Keeps (told log walk) tape (Next t done) s.state) (sym goes)
+          (subst (λ (s : Stepped). Keeps (told log walk) tape (Next t done) s.state) (sym goes)
           (keeps_gone (told log walk) tape done state t (reserving_by image (thread_at state.core t)) local writes shown keeps running notes)))
-    | inr here ↦ absurd (not_faulted shown local writes quiet here.fault (notes ∙ here.note))
+      | inr here ↦ absurd (not_faulted shown local writes quiet here.fault (notes ∙ here.note))
     ]
 
 pub agrees_ends : (image : Layout) (log : Log) (walk : Walk) (tape : List ℕ) (done : List Pos) (state : State) (schedule : List ℕ)
@@ -287,11 +266,12 @@ agrees_ends image log walk tape done state (t ∷ schedule) is fit follows keeps
     (sym (step_note image state t) ∙ agrees.1)
     (λ (halted : is_none next.core.halt ≡ false). nothing_after image (told log walk) next (Next t done) schedule halted agrees.2)
     (λ (f : Follows image log walk (Next t done) next) (k : Keeps (told log walk) tape (Next t done) next).
-      agrees_ends image log walk tape (Next t done) next schedule is fit f k (λ (q : Pos) (i : In q (places_after (Next t done) schedule)). only q (inr i)) agrees.2) in
+    agrees_ends image log walk tape (Next t done) next schedule is fit f k (λ (q : Pos) (i : In q (places_after (Next t done) schedule)). only q (inr i)) agrees.2) in
     let event : event_of image state t ≡ told_event (told log walk) (next_of t done) =
     ap (λ (n : Note). let x : Event = record { thread = t; at = thread.retired; note = n } in x) agrees.1
-    ∙ ap (λ (k : ℕ). let x : Event = record { thread = t; at = k; note = noted (told log walk) (next_of t done) } in x) (follows.threads t there).0 in
-    (ap (λ (x : Event). events_along (told log walk) done ++ x ∷ events image next schedule) event
-     ∙ sym (append_assoc (events_along (told log walk) done) (told_event (told log walk) (next_of t done) ∷ []) (events image next schedule))
-     ∙ rest.0,
-     rest.1)
+    ∙ ap (λ (k : ℕ). let x : Event = record { thread = t; at = k; note = noted (told log walk) (next_of t done) } in x) (follows.threads t there).0 in (
+      ap (λ (x : Event). events_along (told log walk) done ++ x ∷ events image next schedule) event
+          ∙ sym (append_assoc (events_along (told log walk) done) (told_event (told log walk) (next_of t done) ∷ []) (events image next schedule))
+          ∙ rest.0,
+      rest.1,
+    )

@@ -1,78 +1,48 @@
 -- The log of a run that has all steps behind it and noted what is told is the log.
-use Rattle.std.specs.Prelude.{◌≡◌, ◌≢◌, ℕ, zero, suc, ◌+◌, ◌-◌, ◌<◌, ◌≤◌, ◌⊎◌, ◌&&◌, Bool, true, false, cond, List, [], ◌∷◌, ◌++◌, length, map, take, nat_eq, nat_lt, slice_get, Option, Some, None, is_none, is_some, Result, Ok, Err, refl}
-use Rattle.std.proofs.Common.{sym, ◌∙◌, ap, subst, arith, inl, inr, get_or, set, ltb, eqb, eq-eqb}
-use Rattle.std.proofs.lemmas.Bool.{and_parts, eqb-true, ltb-true, ltb-false, false≢true}
-use Rattle.std.proofs.lemmas.List.{length_push, length-append, append-nil, append_assoc}
-use Rattle.std.proofs.Math.Seq.{get_or-append_right}
-use Rattle.std.proofs.lemmas.Option.{none-some, same_Some}
-use Rattle.elf_image.specs.declared.write.Write.{Write}
+use Rattle.std.specs.Prelude.{◌≡◌, ℕ, suc, ◌+◌, ◌<◌, ◌≤◌, Bool, true, false, cond, List, [], ◌∷◌, ◌++◌, length, take, nat_eq, Option, Some, None, is_some, refl}
+use Rattle.std.proofs.Common.{sym, ◌∙◌, ap, subst, arith, inl, inr, eqb}
+use Rattle.std.proofs.lemmas.Bool.{eqb-true}
+use Rattle.std.proofs.lemmas.List.{length-append, append-nil}
 use Rattle.elf_image.specs.Layout.{Layout}
-use Rattle.rv32_decode.specs.declared.instr.Instr.{Instr}
 use Rattle.odr_log.specs.declared.log.Cause.{Cause}
-use Rattle.odr_log.specs.declared.log.Call.{Call}
-use Rattle.odr_log.specs.declared.log.Call.TheVariants as call
 use Rattle.odr_log.specs.declared.log.CallRec.{CallRec}
 use Rattle.odr_log.specs.declared.log.End.{End}
 use Rattle.odr_log.specs.declared.log.End.TheVariants as end
 use Rattle.odr_log.specs.declared.log.Log.{Log}
 use Rattle.odr_log.specs.declared.log.PathItem.{PathItem}
-use Rattle.odr_log.specs.declared.log.PathItem.TheVariants as item
 use Rattle.odr_log.specs.declared.log.Pos.{Pos}
 use Rattle.odr_log.specs.Tape.{tape_of}
-use Rattle.odr_log.specs.Same.{same_item, same_rec, same_end}
-use Rattle.odr_log.specs.SameLaws.{same_item-exact, same_rec-exact, same_end-exact}
-use Rattle.rv_model.specs.declared.state.Local.{Local}
 use Rattle.rv_model.specs.declared.state.Thread.{Thread}
 use Rattle.rv_model.specs.declared.state.Calls.{Calls}
-use Rattle.rv_model.specs.declared.state.Core.{Core}
 use Rattle.rv_model.specs.declared.state.Note.{Note}
 use Rattle.rv_model.specs.declared.state.Note.TheVariants as note
 use Rattle.rv_model.specs.declared.state.State.{State}
-use Rattle.rv_model.specs.declared.state.Stepped.{Stepped}
 use Rattle.rv_model.specs.declared.state.Event.{Event}
-use Rattle.rv_model.specs.declared.hearing.Heard.{Heard}
-use Rattle.rv_model.specs.declared.hearing.Outcome.{Outcome}
-use Rattle.rv_model.specs.declared.hearing.Outcome.TheVariants.{Faults, Goes}
-use Rattle.rv_model.specs.declared.walk.Place.{Place}
-use Rattle.rv_model.specs.declared.walk.Transfer.{Transfer}
-use Rattle.rv_model.specs.Thread.{no_thread, losing}
-use Rattle.rv_model.specs.Calls.{made, reply_to, opening_calls, first_argument}
-use Rattle.rv_model.specs.Instruction.{asked_at}
-use Rattle.rv_model.specs.Noted.{note_in, asked_noted, reply_noted, LeadsOn}
-use Rattle.rv_model.specs.Step.{opening, memory_of, instr_at, thread_at, child_of, applied, gone, after_effect, step, is_enabled}
-use Rattle.rv_model.specs.Run.{event_of, item_of, cons_some, path_of, logged, nothing_logged, is_counted, next_item, next_record, agrees_by, agrees, fits, differs_from, first_diff, HasLog, option_test}
-use Rattle.rv_model.specs.Walk.{Walk, notes_of, places_of, events_from, transfer_of, goes_to, maker_of, BeginsAt, ThreadWalk, IsWalk}
+use Rattle.rv_model.specs.Calls.{made, opening_calls}
+use Rattle.rv_model.specs.Step.{opening, thread_at, step}
+use Rattle.rv_model.specs.Run.{item_of, cons_some, path_of, logged, nothing_logged, agrees, fits, HasLog}
+use Rattle.rv_model.specs.Walk.{Walk, notes_of, places_of, events_from, ThreadWalk, IsWalk}
 use Rattle.rv_model.specs.CallsFit.{CallsFit}
-use Rattle.rv_model.proofs.Progress.{IsQuiet, quiet-act_at, threads_then, own_then, other_then}
-use Rattle.rv_model.proofs.Bounds.{beyond}
-use Rattle.rv_model.proofs.Difference.{no_difference, enabled_within, enabled_goes, step_none, some_passes}
 use Rattle.rv_model.proofs.LogParts.{path_of-append}
-use Rattle.rv_model.proofs.Acts.{asked_act, told_act, walks_on_at}
-use Rattle.guided_walk.specs.Told.{Told, told, last_fault, shown_by, IsPlace, noted}
+use Rattle.guided_walk.specs.Told.{Told, told, last_fault, IsPlace, noted}
 use Rattle.guided_walk.specs.Orders.{In}
-use Rattle.guided_walk.specs.Schedules.{count, next_of, places_after, places, times}
-use Rattle.guided_walk.specs.Run.{halts, Agrees}
-use Rattle.guided_walk.proofs.Along.{MakesNext, MakesOne, MakesNone, heard_by, outcome_by, reserving_by, step_is, threads_none, threads_one, many_then, more_then, After}
-use Rattle.guided_walk.proofs.Shared.{makes_next}
-use Rattle.guided_walk.proofs.Agree.{step_note, halted_step, nothing_after}
-use Rattle.guided_walk.proofs.Walks.{pc_from, leads_start, AtStep, leads_step, Shape, shape, fault_shape, called, called_is, one_note}
-use Rattle.guided_walk.proofs.Records.{Among, among_at, rec, one_record}
-use Rattle.guided_walk.proofs.Facts.{in_log, notes_counted, noted_step, place_called, maker_is}
-use Rattle.guided_walk.proofs.Logged.{told_event, events_along, Built, path_along, path_at, each_then}
-use Rattle.guided_walk.proofs.Along.{Next, count_own, count_other}
+use Rattle.guided_walk.specs.Schedules.{count, next_of, places}
+use Rattle.guided_walk.specs.Run.{Agrees}
+use Rattle.guided_walk.proofs.Facts.{notes_counted}
+use Rattle.guided_walk.proofs.Logged.{told_event, events_along, Built, path_along}
 use Rattle.std.specs.List.{fold, list_all}
 use Rattle.std.proofs.lemmas.List.Sums.{fold-append}
 use Rattle.std.proofs.lemmas.List.{take_all, ext_get_or}
 use Rattle.odr_log.specs.declared.log.ThreadLog.{ThreadLog}
 use Rattle.rv_model.specs.declared.state.Halt.{Halt}
 use Rattle.rv_model.specs.declared.state.Halt.TheVariants as halt
-use Rattle.rv_model.specs.Run.{Runs, final, events, record_in, records_of, thread_logs, end_by, end_of, log_of}
-use Rattle.rv_model.specs.Step.{halt_then, calls_then}
+use Rattle.rv_model.specs.Run.{Runs, final, events, records_of, thread_logs, end_by, end_of, log_of}
+use Rattle.rv_model.specs.Step.{calls_then}
 use Rattle.rv_model.specs.CallsFit.{after_record, final_calls, final_halt, EndFits}
 use Rattle.rv_model.proofs.LogParts.{records_of-append, length-thread_logs, thread_logs-at}
-use Rattle.guided_walk.specs.Run.{calls_along, record_calls}
-use Rattle.guided_walk.proofs.Shared.{Alike, then_alike, made_alike}
-use Rattle.guided_walk.proofs.LoggedRun.{IsAt, Follows, follows_opening, follows_gone, LedOn, Total, not_faulted, makes_by, fault_steps}
+use Rattle.guided_walk.specs.Run.{record_calls}
+use Rattle.guided_walk.proofs.Shared.{made_alike}
+use Rattle.guided_walk.proofs.LoggedRun.{Follows, follows_opening, Total, fault_steps}
 use Rattle.std.proofs.lemmas.List.Folds.{list_all-map}
 use Rattle.guided_walk.proofs.Whole.{all_done, count_all, Keeps, keeps_opening, FaultHere, Ends, Stood, Fell, RunEnds, agrees_ends}
 
@@ -164,9 +134,9 @@ made_threads image log walk done state happened is fit m =
     let long : length (thread_logs 0 state.core.threads happened) ≡ length state.core.threads = length-thread_logs 0 state.core.threads happened in
     ext_get_or nothing_logged (thread_logs 0 state.core.threads happened) log.threads (long ∙ many)
     (λ (u : ℕ) (less : u < length (thread_logs 0 state.core.threads happened)).
-      let there : u < length state.core.threads = omega (arith, less, long) in
-      thread_logs-at 0 u u state.core.threads happened nothing_logged there (omega arith)
-      ∙ thread_made image log walk done state happened u is m there (omega (arith, there, many)))
+    let there : u < length state.core.threads = omega (arith, less, long) in
+    thread_logs-at 0 u u state.core.threads happened nothing_logged there (omega arith)
+    ∙ thread_made image log walk done state happened u is m there (omega (arith, there, many)))
 
 -- the end of a log that is no fault
 end_fits : (h : Option Halt) (all : Bool) (ended : End) → EndFits h all ended → ((t : ℕ) (fault : Cause) → ended ≡ end.Faulted t fault → ⊥) → ended ≡ end_by h all
@@ -248,13 +218,13 @@ has_fallen image log walk done before state t happened is fit version total is_a
     log_is log state happened (sym version)
     (ap (λ (ts : List Thread). thread_logs 0 ts happened) threads ∙ made_threads image log walk done before happened is fit m) records
     (ap (λ (h : Option Halt). end_by h (list_all is_some state.core.calls.ended)) (halts_so here.fault here.ends) ∙ sym here.ends) where
-  full_by : (u : ℕ) → (b : Bool) → eqb t u ≡ b → cond b (suc (count u done)) (count u done) ≡ (told log walk).steps u → count u done ≡ length (notes_of walk u)
-  full_by u true e total_u =
-      let same : t ≡ u = eqb-true t u e in
-      let one : (told log walk).steps u ≡ length (notes_of walk u) + 1 =
-      subst (λ (v : ℕ). (told log walk).steps v ≡ length (notes_of walk v) + 1) same (fault_steps log walk t here.fault here.ends) in
-      omega (arith, total_u, one)
-  full_by u false e total_u = omega (arith, total_u, at_least log walk u, built_few walk u done follows.built follows.counted)
+      full_by : (u : ℕ) → (b : Bool) → eqb t u ≡ b → cond b (suc (count u done)) (count u done) ≡ (told log walk).steps u → count u done ≡ length (notes_of walk u)
+      full_by u true e total_u =
+          let same : t ≡ u = eqb-true t u e in
+          let one : (told log walk).steps u ≡ length (notes_of walk u) + 1 =
+          subst (λ (v : ℕ). (told log walk).steps v ≡ length (notes_of walk v) + 1) same (fault_steps log walk t here.fault here.ends) in
+          omega (arith, total_u, one)
+      full_by u false e total_u = omega (arith, total_u, at_least log walk u, built_few walk u done follows.built follows.counted)
 
 agrees_runs : (image : Layout) (told : Told) (state : State) (done : List Pos) (schedule : List ℕ) → Agrees image told state done schedule → Runs image state schedule
 agrees_runs image told state done [] agrees = tt
@@ -275,9 +245,9 @@ agrees_has image log walk schedule is fit version total only records agrees =
       runs = agrees_runs image (told log walk) start [] schedule agrees;
       log_is = by_end (all_done [] schedule) last happened run.1 counts run.0 (ap records_of run.0 ∙ records);
     } where
-  by_end : (all : List Pos) (state : State) (happened : List Event) → Ends image log walk (tape_of log) all state → ((u : ℕ) → count u all ≡ (told log walk).steps u)
-      → happened ≡ events_along (told log walk) all → records_of happened ≡ log.calls → log_of state happened ≡ log
-  by_end all state happened (Stood follows keeps) counts is_all recs = has_stood image log walk all state happened is fit version counts is_all recs follows keeps
-  by_end all state happened (Fell {done = done} {before = before} {t = t} all_is here follows keeps threads calls halts_so) counts is_all recs =
-      has_fallen image log walk done before state t happened is fit version
-      (λ (u : ℕ). ap (count u) (sym all_is) ∙ counts u) (is_all ∙ ap (events_along (told log walk)) all_is) recs here follows keeps threads halts_so
+      by_end : (all : List Pos) (state : State) (happened : List Event) → Ends image log walk (tape_of log) all state → ((u : ℕ) → count u all ≡ (told log walk).steps u)
+          → happened ≡ events_along (told log walk) all → records_of happened ≡ log.calls → log_of state happened ≡ log
+      by_end all state happened (Stood follows keeps) counts is_all recs = has_stood image log walk all state happened is fit version counts is_all recs follows keeps
+      by_end all state happened (Fell {done = done} {before = before} {t = t} all_is here follows keeps threads calls halts_so) counts is_all recs =
+          has_fallen image log walk done before state t happened is fit version
+          (λ (u : ℕ). ap (count u) (sym all_is) ∙ counts u) (is_all ∙ ap (events_along (told log walk)) all_is) recs here follows keeps threads halts_so

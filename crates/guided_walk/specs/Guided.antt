@@ -1,17 +1,15 @@
 -- The guided walk of a log: each step of each thread by the atomic step of the machine, where the bytes that it reads and
 -- the outcomes of store-conditionals are given, and its calls are answered as the log has them. It asks neither memory nor
 -- other threads, but for what a spawn and a join hand on.
-use Rattle.std.specs.Prelude.{◌≡◌, ℕ, zero, suc, Bool, true, false, List, [], ◌∷◌, map, Option, Some, None, Result, slice_index_or, if◌then◌else◌}
+use Rattle.std.specs.Prelude.{◌≡◌, ℕ, zero, suc, Bool, true, false, map, Option, Some, None, Result, slice_index_or, if◌then◌else◌}
 use Rattle.std.specs.List.{range_with_len}
 use Rattle.elf_image.specs.Layout.{Layout}
 use Rattle.elf_image.specs.Memory.{opening_cells, all_readable, all_writable}
 use Rattle.rv32_decode.specs.declared.instr.Instr.{Instr}
 use Rattle.odr_log.specs.declared.log.Cause.{Cause}
-use Rattle.odr_log.specs.declared.log.Call.{Call}
 use Rattle.odr_log.specs.declared.log.Call.TheVariants as call
 use Rattle.odr_log.specs.declared.log.Pos.{Pos}
 use Rattle.rv_model.specs.declared.state.Local.{Local}
-use Rattle.rv_model.specs.declared.state.Thread.{Thread}
 use Rattle.rv_model.specs.declared.state.Note.{Note}
 use Rattle.rv_model.specs.declared.state.Note.TheVariants as note
 use Rattle.rv_model.specs.declared.hearing.Access.{Access}

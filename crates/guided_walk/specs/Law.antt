@@ -8,7 +8,7 @@ use Rattle.rv_model.specs.Walk.{Walk, IsWalk}
 use Rattle.rv_model.specs.CallsFit.{CallsFit}
 use Rattle.guided_walk.specs.Told.{Told, told, IsPlace}
 use Rattle.guided_walk.specs.Guided.{Given, Visits, at, IsGuided, Guided}
-use Rattle.guided_walk.specs.Orders.{In, Keeps, Lists}
+use Rattle.guided_walk.specs.Orders.{Keeps, Lists}
 use Rattle.guided_walk.specs.Fits.{Explained}
 use Rattle.guided_walk.specs.Woven.{Woven}
 use Rattle.guided_walk.specs.Along.{walk_along, HoldsAlong, HasNeeds}

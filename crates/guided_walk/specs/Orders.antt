@@ -1,5 +1,5 @@
 -- Lists of steps and relations between steps.
-use Rattle.std.specs.Prelude.{◌≡◌, ℕ, ◌⊎◌, ◌<◌, List, [], ◌∷◌}
+use Rattle.std.specs.Prelude.{◌≡◌, ◌⊎◌, List, [], ◌∷◌}
 use Rattle.odr_log.specs.declared.log.Pos.{Pos}
 
 abbrev pub In : Pos → List Pos → Type 0

@@ -1,5 +1,5 @@
 -- The log as its walk spells it out: what is recorded of each step of each thread.
-use Rattle.std.specs.Prelude.{ℕ, ◌<◌, List, [], ◌∷◌, ◌++◌, length, nat_eq, find, slice_index_or, Bool, false, Option, None, Some, option_map, if◌then◌else◌}
+use Rattle.std.specs.Prelude.{ℕ, ◌<◌, List, [], ◌∷◌, ◌++◌, length, nat_eq, find, slice_index_or, Bool, false, Option, option_map, if◌then◌else◌}
 use Rattle.odr_log.specs.declared.log.Call.{Call}
 use Rattle.odr_log.specs.declared.log.Call.TheVariants as call
 use Rattle.odr_log.specs.declared.log.CallRec.{CallRec}
