@@ -17,3 +17,4 @@ pub mod CallOrder
 pub mod NeedsOrder
 pub mod Standing
 pub mod ScheduleLaw
+pub mod OrderedLaw

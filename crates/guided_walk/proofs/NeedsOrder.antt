@@ -137,7 +137,7 @@ few_steps log walk u = omega (arith, length-append (notes_of walk u) (last_fault
 pub counted_place : (image : Layout) (log : Log) (walk : Walk) → IsWalk image log walk → (p : Pos) → p.step < length (notes_of walk p.thread) → Counted log p
 counted_place image log walk is p within = omega (arith, within, notes_counted image log walk is p.thread (in_log image log walk is p.thread p.step within))
 
-place_counted : (log : Log) (walk : Walk) (p : Pos) → p.step < length (notes_of walk p.thread) → IsPlace (told log walk) p
+pub place_counted : (log : Log) (walk : Walk) (p : Pos) → p.step < length (notes_of walk p.thread) → IsPlace (told log walk) p
 place_counted log walk p within = omega (arith, within, length-append (notes_of walk p.thread) (last_fault log.end p.thread))
 
 -- the record that made a thread

@@ -40,7 +40,7 @@ use Rattle.guided_walk.proofs.Standing.{threads_opening, FaultLast, ToCome, suit
 
 -- ---- how many steps
 
-notes_are : (image : Layout) (log : Log) (walk : Walk) → IsWalk image log walk → (u : ℕ) → length (notes_of walk u) ≡ (logged log u).steps
+pub notes_are : (image : Layout) (log : Log) (walk : Walk) → IsWalk image log walk → (u : ℕ) → length (notes_of walk u) ≡ (logged log u).steps
 notes_are image log walk is u = by_test (ltb u (length log.threads)) refl where
   by_test : (b : Bool) → ltb u (length log.threads) ≡ b → length (notes_of walk u) ≡ (logged log u).steps
   by_test true e = notes_counted image log walk is u (ltb-true u (length log.threads) e)

@@ -1,7 +1,11 @@
 -- The guided walk along a list of steps: each step is worked out from the steps before it.
 use Rattle.std.specs.Prelude.{◌≡◌, ℕ, ◌&&◌, List, [], ◌∷◌, nat_eq, if◌then◌else◌}
 use Rattle.elf_image.specs.Layout.{Layout}
+use Rattle.odr_log.specs.declared.log.End.{End}
+use Rattle.odr_log.specs.declared.log.End.TheVariants as end
+use Rattle.odr_log.specs.declared.log.Log.{Log}
 use Rattle.odr_log.specs.declared.log.Pos.{Pos}
+use Rattle.rv_model.specs.Run.{logged}
 use Rattle.rv_model.specs.Noted.{note_in}
 use Rattle.guided_walk.specs.Told.{Told, IsPlace, noted}
 use Rattle.guided_walk.specs.Guided.{Given, Visit, Visits, at, visit}
@@ -26,3 +30,13 @@ pub record HasNeeds (told : Told) (before : Pos → Pos → Type 0) : Type 0 whe
   pub no_ring : (p : Pos) → before p p → ⊥
   pub places : (q p : Pos) → IsPlace told p → Needs told q p → IsPlace told q
   pub first : (q p : Pos) → IsPlace told p → Needs told q p → before q p
+
+-- the place of the fault in which a log ends, if it does
+abbrev pub fault_by : Log → End → List Pos
+fault_by log (end.Faulted thread fault) = record { thread = thread; step = (logged log thread).steps } ∷ []
+fault_by log (end.Exited thread code) = []
+fault_by log end.AllDone = []
+fault_by log end.Cut = []
+
+abbrev pub fault_places : Log → List Pos
+fault_places log = fault_by log log.end

@@ -1,4 +1,4 @@
-ghost use Rattle.guided_walk.specs.Law.{OrderLaw, TableLaw, ScheduleLaw};
+ghost use Rattle.guided_walk.specs.Law.{OrderLaw, TableLaw, OrderedLaw, ScheduleLaw};
 
 /// Along two lists of all places that keep an order, the guided walk holds along both or neither, with the same visits.
 pub fn order_does_not_matter()
@@ -14,4 +14,10 @@ pub fn walks_along_lists()
 /// a log whose walk is defined and whose calls fit.
 pub fn schedules_are_explained()
     ensures { ScheduleLaw }
+{}
+
+/// Along two lists of all counted steps that keep an ordered relation, with the fault behind them, the guided walk holds
+/// along both or neither, with the same visits.
+pub fn ordered_lists_agree()
+    ensures { OrderedLaw }
 {}
