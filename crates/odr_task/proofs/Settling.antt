@@ -1,6 +1,7 @@
 -- What a call leaves, by what saving, printing and reporting left.
 use Rattle.std.specs.Prelude.{◌≡◌, ◌≢◌, ◌⊎◌, ℕ, List, [], Option, Some, None, Result, Ok, Err, IfOk, is_some, refl}
 use Rattle.std.proofs.Common.{sym, ◌∙◌, ap, subst, inl, inr, append-nil}
+use Rattle.std.specs.Option.{IsSomeAnd}
 use Rattle.std.specs.Io.KnownBytes.{append_known}
 use Rattle.odr_io.specs.Outside.{Held, Rose}
 use Rattle.odr_io.specs.Written.{AppendsPrefix, append_known-nothing}
@@ -24,7 +25,7 @@ pub record Leaves (done : Done) (KeptOut : Type 0) (before after : Option Held) 
 
 -- what the report of a stop left
 pub record Reports (given : Stop) (status : ℕ) (eb ea : Option (List ℕ)) (q q' : ℕ) : Type 0 where
-  pub told : status ≢ 1 → status ≢ 6 → Reported given status eb ea
+  pub told : status ≢ 1 → status ≢ 6 → IsSomeAnd (verdict_of given) (Reported status eb ea)
   pub cut : PartOfLine (verdict_of given) eb ea
   pub device : status ≡ 6 → ((given ≡ stop.Device) × (ea ≡ append_known eb device_line)) ⊎ Rose q q'
   pub steady : status ≢ 6 → q' ≡ q
@@ -34,8 +35,6 @@ pub settled_done : (done : Done) (KeptFiles KeptOut : Type 0) (before after : Op
     → Settled (Ok done) KeptFiles KeptOut done.status before after f f' ob oa p p' eb eb q q
 settled_done done KeptFiles KeptOut before after f f' ob oa p p' eb q ends leaves saved printed same = record {
   shown = λ (m : done.status ≢ 1) (d : done.status ≢ 6). record {
-    verdict = ended_by done;
-    of_work = refl;
     status_is = refl;
     saved = saved;
     out_is = printed;
@@ -61,9 +60,9 @@ no_verdict verdict eb ea part = record { line = part.line; is_line = by_case par
   by_case line (inr (inl device)) = inr (inl device)
   by_case line (inr (inr none)) = absurd none
 
-not_reported : (given : SaveFail) (status : ℕ) (eb ea : Option (List ℕ)) → Reported (stop_of given) status eb ea → ⊥
-not_reported fail.Failed status eb ea told = (let e = told.of_stop in cc)
-not_reported fail.Memory status eb ea told = (let e = told.of_stop in cc)
+not_reported : (given : SaveFail) (P : Verdict → Type 0) → IsSomeAnd (verdict_of (stop_of given)) P → ⊥
+not_reported fail.Failed P told = told
+not_reported fail.Memory P told = told
 
 failed_verdict : (given : SaveFail) → verdict_of (stop_of given) ≡ None
 failed_verdict fail.Failed = refl
@@ -80,8 +79,8 @@ pub settled_failed : (done : Done) (KeptFiles KeptOut : Type 0) (status : ℕ) (
 settled_failed done KeptFiles KeptOut status before after f f' ob oa p p' eb ea q q' given told is leaves part failed given_report =
     let report : Reports (stop_of given) status eb ea q q' = subst (λ (s : Stop). Reports s status eb ea q q') is given_report in
     record {
-      shown = λ (m : status ≢ 1) (d : status ≢ 6). absurd (not_reported given status eb ea (report.told m d));
-      steady = λ (m : status ≢ 1) (d : status ≢ 6). absurd (not_reported given status eb ea (report.told m d));
+      shown = λ (m : status ≢ 1) (d : status ≢ 6). absurd (not_reported given (Reported status eb ea) (report.told m d));
+      steady = λ (m : status ≢ 1) (d : status ≢ 6). absurd (not_reported given (Reported status eb ea) (report.told m d));
       device = λ (e : status ≡ 6). elim (report.device e) [
         | inl told ↦ elim (failed (is_failed given told.0)) [ inl store ↦ inl store | inr sink ↦ inr (inl sink) ]
         | inr rose ↦ inr (inr rose)
@@ -96,19 +95,12 @@ settled_failed done KeptFiles KeptOut status before after f f' ob oa p p' eb ea 
       stopped = tt;
     }
 
-stopped_shown : (given : Stop) (status : ℕ) (before : Option Held) (ob eb ea : Option (List ℕ)) → Reported given status eb ea → Shown (Err given) status before before ob ob eb ea
+stopped_shown : (given : Stop) (status : ℕ) (before : Option Held) (ob eb ea : Option (List ℕ)) → IsSomeAnd (verdict_of given) (Reported status eb ea)
+    → IsSomeAnd (verdict_of given) (Shown None status before before ob ob eb ea)
 stopped_shown (stop.Refused refusal) status before ob eb ea told =
-    let same : Refused (reason_of refusal) ≡ told.verdict = (let e = told.of_stop in cc) in
-    record {
-      verdict = Refused (reason_of refusal);
-      of_work = refl;
-      status_is = told.status_is ∙ ap status_of (sym same);
-      saved = refl;
-      out_is = sym (append_known-nothing ob);
-      err_is = told.err_is ∙ ap (λ v. append_known eb (err_text v)) (sym same);
-    }
-stopped_shown stop.Device status before ob eb ea told = absurd (let e = told.of_stop in cc)
-stopped_shown stop.Memory status before ob eb ea told = absurd (let e = told.of_stop in cc)
+    record { status_is = told.status_is; saved = refl; out_is = sym (append_known-nothing ob); err_is = told.err_is }
+stopped_shown stop.Device status before ob eb ea told = told
+stopped_shown stop.Memory status before ob eb ea told = told
 
 -- A command stopped, which was reported.
 pub settled_stopped : (given : Stop) (KeptFiles KeptOut : Type 0) (status : ℕ) (before : Option Held) (f : ℕ) (ob : Option (List ℕ)) (p : ℕ) (eb ea : Option (List ℕ)) (q q' : ℕ)
@@ -132,13 +124,10 @@ ends_at prepared done is ends = subst (λ (r : Result Done Stop). IfOk r (λ (d 
 
 -- a refusal whose line was written
 pub reported_refusal : (given : Stop) (refusal : Refusal) (status : ℕ) (eb ea : Option (List ℕ)) (line : List ℕ) → given ≡ stop.Refused refusal → status ≡ (reason_of refusal).status
-    → ea ≡ append_known eb line → line ≡ (reason_of refusal).line → Reported given status eb ea
-reported_refusal given refusal status eb ea line is status_is told same = record {
-  verdict = Refused (reason_of refusal);
-  of_stop = ap verdict_of is;
-  status_is = status_is;
-  err_is = told ∙ ap (append_known eb) same;
-}
+    → ea ≡ append_known eb line → line ≡ (reason_of refusal).line → IsSomeAnd (verdict_of given) (Reported status eb ea)
+reported_refusal given refusal status eb ea line is status_is told same =
+    let here : Reported status eb ea (Refused (reason_of refusal)) = record { status_is = status_is; err_is = told ∙ ap (append_known eb) same } in
+    subst (λ (s : Stop). IsSomeAnd (verdict_of s) (Reported status eb ea)) (sym is) here
 
 -- what holds of the value holds of a reference to it
 pub settled_at : (prepared value : Result Done Stop) (KeptFiles KeptOut : Type 0) (status : ℕ) (before after : Option Held) (f f' : ℕ) (ob oa : Option (List ℕ)) (p p' : ℕ) (eb ea : Option (List ℕ)) (q q' : ℕ)

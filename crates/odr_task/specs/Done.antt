@@ -1,11 +1,13 @@
 -- What a command came to, before anything outside is changed.
-use Rattle.std.specs.Prelude.{◌≡◌, ℕ, List, Option, Some, None, Result, Ok, Err, option_map}
+use Rattle.std.specs.Prelude.{◌≡◌, ◌≢◌, ℕ, List, Option, Some, None, IfSome, Result, Ok, Err, IfOk, IfErr}
 use Rattle.odr_io.specs.Outside.{Held, Holds, KeepsOthers}
 use Rattle.odr_task.specs.declared.done.NamedFile.{NamedFile}
 use Rattle.odr_task.specs.declared.done.Done.{Done}
 use Rattle.odr_task.specs.declared.refusal.Stop.{Stop}
+use Rattle.odr_task.specs.declared.refusal.Stop.TheVariants as stop
 use Rattle.odr_task.specs.Verdict.{Verdict, Ended}
 use Rattle.odr_task.specs.Refusals.{verdict_of}
+use Rattle.odr_task.specs.Files.{StopsBy}
 
 -- the text of a file that is to be saved
 abbrev pub text_in : Option NamedFile → Option (List ℕ)
@@ -36,3 +38,27 @@ HasSaved before after (Some file) = Holds after file.name.now file.bytes
 abbrev pub KeepsBut : Option Held → Option Held → Option NamedFile → Type 0
 KeepsBut before after None = after ≡ before
 KeepsBut before after (Some file) = KeepsOthers before after file.name.now
+
+-- ---- what a command comes to
+
+-- the file that is to be saved, if there is one, has this name
+abbrev pub IsNamed : Option (List ℕ) → Option NamedFile → Type 0
+IsNamed name file = IfSome file (λ f. Some f.name.now ≡ name)
+
+-- it came to its end with this verdict, of status 0
+pub record Makes (verdict : Verdict) (name : Option (List ℕ)) (done : Done) : Type 0 where
+  pub is : ended_by done ≡ verdict
+  pub status : done.status ≡ 0
+  pub named : IsNamed name done.file
+
+-- it came to its end with a verdict that is owed, of status 0
+pub record Prepared (Owed : Verdict → Type 0) (name : Option (List ℕ)) (done : Done) : Type 0 where
+  pub owed : Owed (ended_by done)
+  pub status : done.status ≡ 0
+  pub named : IsNamed name done.file
+
+-- Work without a store came to this verdict, or memory was wanting.
+pub record Works (verdict : Verdict) (name : Option (List ℕ)) (result : Result Done Stop) : Type 0 where
+  pub done : IfOk result (Makes verdict name)
+  pub refused : IfErr result (StopsBy (λ other. other ≡ verdict))
+  pub no_fault : result ≢ Err stop.Device

@@ -1,7 +1,8 @@
 -- What the files that a command loads give, and why they are refused, as far as the store tells what it holds.
-use Rattle.std.specs.Prelude.{◌≡◌, ◌⊎◌, ℕ, ◌<◌, ◌≤◌, List, length, Option, Some, None, IfSome}
-use Rattle.odr_io.specs.Outside.{Held, held_at}
+use Rattle.std.specs.Prelude.{◌≡◌, ◌≢◌, ◌⊎◌, ℕ, ◌<◌, ◌≤◌, List, length, Option, Some, None, IfSome, Result, Err, IfOk, IfErr, IsErrOf}
+use Rattle.odr_io.specs.Outside.{Held, held_at, Rose}
 use Rattle.odr_task.specs.declared.refusal.Stop.{Stop}
+use Rattle.odr_task.specs.declared.refusal.Stop.TheVariants as stop
 use Rattle.odr_task.specs.Verdict.{Verdict, Refused}
 use Rattle.odr_task.specs.Refusals.{no_file, verdict_of}
 
@@ -52,3 +53,14 @@ FromFile {X} Is Not told name Next verdict = Refuses Not told name verdict ⊎ (
 -- a command that stopped has a verdict of these, if it has one
 abbrev pub StopsBy : (Verdict → Type 0) → Stop → Type 0
 StopsBy Owed given = IfSome (verdict_of given) Owed
+
+-- ---- calls that read a store and change nothing
+
+-- It gave this, or stopped with one of these verdicts. What is held is as it was, and the count of faults rises only where
+-- the store failed.
+pub record Reads {X : Type 0} (Given : X → Type 0) (Refused : Verdict → Type 0) (result : Result X Stop) (before after : Option Held) (f f' : ℕ) : Type 0 where
+  pub given : IfOk result Given
+  pub refused : IfErr result (StopsBy Refused)
+  pub kept : after ≡ before
+  pub failed : IsErrOf result stop.Device → Rose f f'
+  pub steady : result ≢ Err stop.Device → f' ≡ f

@@ -4,6 +4,7 @@ use Rattle.std.specs.Option.{IsSomeAnd}
 use Rattle.std.specs.Io.KnownBytes.{append_known}
 use Rattle.odr_io.specs.Outside.{Held, Rose}
 use Rattle.odr_io.specs.Written.{AppendsPrefix}
+use Rattle.odr_task.specs.declared.done.NamedFile.{NamedFile}
 use Rattle.odr_task.specs.declared.done.Done.{Done}
 use Rattle.odr_task.specs.declared.refusal.Stop.{Stop}
 use Rattle.odr_task.specs.declared.refusal.Stop.TheVariants as stop
@@ -21,10 +22,8 @@ IsLine verdict text = (text ≡ memory_line) ⊎ ((text ≡ device_line) ⊎ IsS
 
 -- ---- reports
 
--- the whole line of a stop, with its status
-pub record Reported (given : Stop) (status : ℕ) (before after : Option (List ℕ)) : Type 0 where
-  pub verdict : Verdict
-  pub of_stop : verdict_of given ≡ Some verdict
+-- the whole line of a verdict, with its status
+pub record Reported (status : ℕ) (before after : Option (List ℕ)) (verdict : Verdict) : Type 0 where
   pub status_is : status ≡ status_of verdict
   pub err_is : after ≡ append_known before (err_text verdict)
 
@@ -37,11 +36,9 @@ pub record PartOfLine (verdict : Option Verdict) (before after : Option (List �
 -- ---- calls
 
 -- The verdict came out: its file was saved, and exactly its lines were printed.
-pub record Shown (prepared : Result Done Stop) (status : ℕ) (before after : Option Held) (ob oa eb ea : Option (List ℕ)) : Type 0 where
-  pub verdict : Verdict
-  pub of_work : verdict_in prepared ≡ Some verdict
+pub record Shown (file : Option NamedFile) (status : ℕ) (before after : Option Held) (ob oa eb ea : Option (List ℕ)) (verdict : Verdict) : Type 0 where
   pub status_is : status ≡ status_of verdict
-  pub saved : HasSaved before after (file_in prepared)
+  pub saved : HasSaved before after file
   pub out_is : oa ≡ append_known ob (out_text verdict)
   pub err_is : ea ≡ append_known eb (err_text verdict)
 
@@ -50,7 +47,7 @@ pub record Shown (prepared : Result Done Stop) (status : ℕ) (before after : Op
 pub record Settled (prepared : Result Done Stop) (KeptFiles KeptOut : Type 0) (status : ℕ) (before after : Option Held) (f f' : ℕ)
     (ob oa : Option (List ℕ)) (p p' : ℕ) (eb ea : Option (List ℕ)) (q q' : ℕ) : Type 0 where
   -- every status but 1 and 6 is that of the verdict, which came out, and nothing failed
-  pub shown : status ≢ 1 → status ≢ 6 → Shown prepared status before after ob oa eb ea
+  pub shown : status ≢ 1 → status ≢ 6 → IsSomeAnd (verdict_in prepared) (Shown (file_in prepared) status before after ob oa eb ea)
   pub steady : status ≢ 1 → status ≢ 6 → (f' ≡ f) × (p' ≡ p) × (q' ≡ q)
   -- 6 comes only where a count of faults rose, and with its line unless that failed
   pub device : IfOk prepared (λ _. status ≡ 6 → Rose f f' ⊎ (Rose p p' ⊎ Rose q q'))

@@ -1,8 +1,6 @@
-ghost use Rattle.std.specs.Prelude.{◌≡◌, ◌≢◌, IfOk, IfErr, IsErrOf};
-ghost use Rattle.odr_io.specs.Outside.{Rose};
 ghost use Rattle.odr_task.specs.Refusals.{reason_of};
 ghost use Rattle.odr_task.specs.Verdict.{Refused};
-ghost use Rattle.odr_task.specs.Files.{Found, Turns, StopsBy};
+ghost use Rattle.odr_task.specs.Files.{Found, Turns, Reads};
 
 use crate::refusal::{Refusal, Stop};
 use odr_io::fail::LoadFail;
@@ -18,11 +16,8 @@ pub fn load<'a, F: Files>(
     limit: u64,
     too_long: Refusal<'a>,
 ) -> Result<Bytes, Stop<'a>>
-    ensures found { IfOk result (Found (F.held files.old) name.now limit) }
-    ensures refused { IfErr result (StopsBy (Turns (F.held files.old) name.now limit (Refused (reason_of too_long.entry)))) }
-    ensures kept { F.held files.new ≡ F.held files.old }
-    ensures failed { IsErrOf result Stop.Device → Rose (F.faults files.old) (F.faults files.new) }
-    ensures steady { result ≢ Err Stop.Device → F.faults files.new ≡ F.faults files.old }
+    ensures { Reads (Found (F.held files.old) name.now limit) (Turns (F.held files.old) name.now limit (Refused (reason_of too_long.entry)))
+        result (F.held files.old) (F.held files.new) (F.faults files.old) (F.faults files.new) }
 {
     let mut bytes = Vec::new(alloc);
     match files.load(alloc, name, limit, &mut bytes) {

@@ -1,4 +1,5 @@
 ghost use Rattle.std.specs.Prelude.{◌≡◌, ◌≢◌, ◌⊎◌};
+ghost use Rattle.std.specs.Option.{IsSomeAnd};
 ghost use Rattle.std.specs.Io.KnownBytes.{append_known};
 ghost use Rattle.odr_io.specs.Outside.{Rose};
 ghost use Rattle.odr_io.specs.Written.{AppendsPrefix};
@@ -28,7 +29,7 @@ fn tell<E: Sink>(err: &mut E, line: &str, status: u8) -> u8
 /// Writes to err why a command stopped, and answers the status: 6 where the line could not be written, and 1
 /// where memory did not suffice for it.
 pub fn report<E: Sink>(alloc: Global, err: &mut E, stop: Stop<'_>) -> u8
-    ensures told { result ≢ 1 → result ≢ 6 → Reported stop.entry result (E.written err.old) (E.written err.new) }
+    ensures told { result ≢ 1 → result ≢ 6 → IsSomeAnd (verdict_of stop.entry) (Reported result (E.written err.old) (E.written err.new)) }
     ensures cut { PartOfLine (verdict_of stop.entry) (E.written err.old) (E.written err.new) }
     ensures device { result ≡ 6 → ((stop.entry ≡ Stop.Device) × (E.written err.new ≡ append_known (E.written err.old) device_line)) ⊎ Rose (E.faults err.old) (E.faults err.new) }
     ensures steady { result ≢ 6 → E.faults err.new ≡ E.faults err.old }
