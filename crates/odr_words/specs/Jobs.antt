@@ -1,6 +1,7 @@
 -- Which words are which job.
 use Rattle.std.specs.Prelude.{◌-◌, ◌^◌, ◌≤◌, ◌&&◌, Bool, List, [], ◌∷◌, map, codes, bytes_eq, Option, Some, None, option_map, option_and_then, if◌then◌else◌}
 use Rattle.std.specs.Map.{lookup}
+use Rattle.odr_words.specs.Limits.{default_seed, default_steps, most_steps, default_lines, most_lines, most_demo}
 use Rattle.odr_words.specs.Arguments.{Text, Options, Arguments, word_of, arguments_of, value_of, are_known, are_distinct}
 use Rattle.odr_words.specs.Numbers.{number_in, number_or}
 use Rattle.odr_words.specs.declared.command.Command.{Command}
@@ -35,17 +36,17 @@ options_of other = []
 -- within its limits
 abbrev pub job_with : Command → List Text → (Text → Option Text) → Option Job
 job_with command.Record (elf ∷ log ∷ []) value = do
-  seed ← number_or 42 0 (2 ^ 64 - 1) (value (codes "seed"))
-  limit ← number_or 100000 1 250000 (value (codes "limit"))
+  seed ← number_or default_seed 0 (2 ^ 64 - 1) (value (codes "seed"))
+  limit ← number_or default_steps 1 most_steps (value (codes "limit"))
   Some (job.Record elf log seed limit (value (codes "input")))
 job_with command.Infer (elf ∷ log ∷ out ∷ []) value = do
-  steps ← number_or 20000 1 1000000000 (value (codes "steps"))
+  steps ← number_or default_lines 1 most_lines (value (codes "steps"))
   Some (job.Infer elf log out steps)
 job_with command.Check (elf ∷ log ∷ cert ∷ []) value = Some (job.Check elf log cert)
 job_with command.Replay (elf ∷ log ∷ sched ∷ []) value = Some (job.Replay elf log sched)
 job_with command.Debug (elf ∷ log ∷ sched ∷ []) value = Some (job.Debug elf log sched)
 job_with command.Asm (text ∷ elf ∷ []) value = Some (job.Asm text elf)
-job_with command.Demo (number ∷ []) value = option_map job.Demo (number_in 0 40 number)
+job_with command.Demo (number ∷ []) value = option_map job.Demo (number_in 0 most_demo number)
 job_with other positionals value = None
 
 -- the options are the command's, each at most once
@@ -68,9 +69,9 @@ job_of (first ∷ words) = do
 
 -- the numbers of a job are at most their limits
 abbrev pub IsWithinLimits : Job → Type 0
-IsWithinLimits (job.Record elf log seed limit input) = limit ≤ 250000
-IsWithinLimits (job.Infer elf log out steps) = steps ≤ 1000000000
-IsWithinLimits (job.Demo number) = number ≤ 40
+IsWithinLimits (job.Record elf log seed limit input) = limit ≤ most_steps
+IsWithinLimits (job.Infer elf log out steps) = steps ≤ most_lines
+IsWithinLimits (job.Demo number) = number ≤ most_demo
 IsWithinLimits (job.Check elf log cert) = Unit {0}
 IsWithinLimits (job.Replay elf log sched) = Unit {0}
 IsWithinLimits (job.Debug elf log sched) = Unit {0}

@@ -1,4 +1,5 @@
 ghost use Rattle.std.specs.Prelude.{◌≡◌, ◌≤◌, ◌-◌, ◌^◌, IfOk, IfSome, option_map, is_some};
+ghost use Rattle.odr_words.specs.Limits.{default_seed, default_steps, most_steps, default_lines, most_lines, most_demo};
 ghost use Rattle.odr_words.specs.Jobs.{job_with, IsWithinLimits};
 ghost use Rattle.odr_words.specs.Numbers.{number_in, number_or};
 ghost use Rattle.odr_words.specs.Read.{seen_positionals, seen_values, value_in, Reads};
@@ -25,14 +26,14 @@ fn optional_copy(alloc: Global, text: Option<&str>) -> Result<Option<WordText>, 
 
 /// The seed, its default or none where it is no number within its limits.
 fn seed(options: &OptionValues<'_>) -> Option<u64>
-    ensures { result ≡ number_or 42 0 (2 ^ 64 - 1) (seen_values options.now).seed }
+    ensures { result ≡ number_or default_seed 0 (2 ^ 64 - 1) (seen_values options.now).seed }
 {
     number_or(42, 0, u64::MAX, options.seed)
 }
 
 /// The limit of steps, its default or none where it is no number within its limits.
 fn limit(options: &OptionValues<'_>) -> Option<u32>
-    ensures value { result ≡ number_or 100000 1 250000 (seen_values options.now).limit }
+    ensures value { result ≡ number_or default_steps 1 most_steps (seen_values options.now).limit }
     ensures within { IfSome result (λ number. number ≤ 250000) }
 {
     match number_or(100_000, 1, 250_000, options.limit) {
@@ -43,7 +44,7 @@ fn limit(options: &OptionValues<'_>) -> Option<u32>
 
 /// The count of derived lines, its default or none where it is no number within its limits.
 fn steps(options: &OptionValues<'_>) -> Option<u64>
-    ensures value { result ≡ number_or 20000 1 1000000000 (seen_values options.now).steps }
+    ensures value { result ≡ number_or default_lines 1 most_lines (seen_values options.now).steps }
     ensures within { IfSome result (λ number. number ≤ 1000000000) }
 {
     number_or(20_000, 1, 1_000_000_000, options.steps)
@@ -51,7 +52,7 @@ fn steps(options: &OptionValues<'_>) -> Option<u64>
 
 /// The size of a demo, or none where it is no number within its limits.
 fn size(text: &str) -> Option<u32>
-    ensures value { result ≡ number_in 0 40 text.now }
+    ensures value { result ≡ number_in 0 most_demo text.now }
     ensures within { IfSome result (λ number. number ≤ 40) }
 {
     match number_in(text, 0, 40) {

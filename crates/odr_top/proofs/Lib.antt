@@ -1,3 +1,0 @@
-pub mod OneVerdict
-pub mod Loading
-pub mod Ends
