@@ -1,0 +1,11 @@
+pub mod Listing
+pub mod Fronts
+pub mod Trailing
+pub mod RowViews
+pub mod Adding
+pub mod Moving
+pub mod Indexing
+pub mod Looking
+pub mod RowVisits
+pub mod Running
+pub mod Loads

@@ -1,0 +1,6 @@
+use Rattle.std.proofs.Common.{◌≡◌, ℕ, ◌<◌, Some, slice_get}
+use Rattle.clause_store.specs.declared.lit.Lit.{Lit}
+use Rattle.sat_trail.proofs.load.second_of.Given as goal
+
+abbrev pub invariant-loop-lit : goal.invariant-loop-lit
+invariant-loop-lit l = (i : ℕ) (k : Lit) → i < l.lit-index → slice_get l.clause i ≡ Some k → k ≡ l.one
