@@ -1,0 +1,9 @@
+pub mod Reading
+pub mod OneReading
+pub mod Running
+pub mod Recording
+pub mod Inferring
+pub mod Replaying
+pub mod Assembling
+pub mod Jobs
+pub mod Promise

@@ -1,0 +1,9 @@
+pub mod Limits
+pub mod Inputs
+pub mod Explained
+pub mod Record
+pub mod Infer
+pub mod Replay
+pub mod Asm
+pub mod Owes
+pub mod Answer
