@@ -82,9 +82,9 @@ needs_fault image log walk before is fit ordered = record {
       let need : NeedIs log walk q p = need_is image log walk is fit q p place n in
       let counted : Counted log q = counted_place image log walk is q need.within in
       and_from _ _ (ap not (counted_no_fault log q counted (is_fault log q) refl)) (elim (place_kind log walk p place) [
-          inl within ↦ or_right (is_fault log p) (before q p) (ordered.flow q p (One (need.flow (counted_place image log walk is p within))))
+        | inl within ↦ or_right (is_fault log p) (before q p) (ordered.flow q p (One (need.flow (counted_place image log walk is p within))))
         | inr fault ↦ ap (λ (b : Bool). b || before q p) (fault_is log p.thread fault.fault p.step fault.ends (fault.at ∙ notes_are image log walk is p.thread))
-        ]);
+      ]);
 }
 
 -- ---- a list of all counted steps with the fault behind it
@@ -96,8 +96,8 @@ tail_keep log before steps keeps tail faults (inl none) =
 tail_keep log before steps keeps tail faults (inr one) =
     subst (λ (xs : List Pos). Keeps (holds (before_fault log before)) (steps ++ xs)) (sym one.1)
     (keeps_push (holds (before_fault log before)) steps one.0 keeps
-      (λ (y : Pos) (i : In y steps) (r : before_fault log before one.0 y ≡ true).
-        false≢true (sym (not_by (is_fault log one.0) (is_fault log y || before one.0 y) r) ∙ faults one.0 (subst (In one.0) (sym one.1) (inl refl)))))
+    (λ (y : Pos) (i : In y steps) (r : before_fault log before one.0 y ≡ true).
+    false≢true (sym (not_by (is_fault log one.0) (is_fault log y || before one.0 y) r) ∙ faults one.0 (subst (In one.0) (sym one.1) (inl refl)))))
 
 fault_list : (log : Log) (ended : End) → (fault_by log ended ≡ []) ⊎ ((x : Pos) × (fault_by log ended ≡ x ∷ []))
 fault_list log (end.Faulted t fault) = inr (record { thread = t; step = (logged log t).steps }, refl)
@@ -123,9 +123,10 @@ in_right p (x ∷ xs) ys i = inr (in_right p xs ys i)
 
 distinct_push : (xs ys : List Pos) → Distinct xs → Distinct ys → ((p : Pos) → In p xs → In p ys → ⊥) → Distinct (xs ++ ys)
 distinct_push [] ys one other apart = other
-distinct_push (x ∷ xs) ys one other apart =
-    (λ (i : In x (xs ++ ys)). elim (in-append x xs ys i) [ inl j ↦ one.0 j | inr j ↦ apart x (inl refl) j ],
-     distinct_push xs ys one.1 other (λ (p : Pos) (i : In p xs) (j : In p ys). apart p (inr i) j))
+distinct_push (x ∷ xs) ys one other apart = (
+  λ (i : In x (xs ++ ys)). elim (in-append x xs ys i) [ inl j ↦ one.0 j | inr j ↦ apart x (inl refl) j ],
+  distinct_push xs ys one.1 other (λ (p : Pos) (i : In p xs) (j : In p ys). apart p (inr i) j),
+)
 
 distinct_fault : (log : Log) (ended : End) → Distinct (fault_by log ended)
 distinct_fault log (end.Faulted t fault) = (λ (i : ⊥). i, tt)
@@ -144,16 +145,16 @@ fault_place image log walk is end.Cut e p i = absurd i
 whole_list : (image : Layout) (log : Log) (walk : Walk) (steps : List Pos) → IsWalk image log walk → Lists (Counted log) steps → Lists (IsPlace (told log walk)) (steps ++ fault_places log)
 whole_list image log walk steps is lists = record {
   all = λ (p : Pos) (place : IsPlace (told log walk) p). elim (place_kind log walk p place) [
-      inl within ↦ in_left p steps (fault_places log) (lists.all p (counted_place image log walk is p within))
+    | inl within ↦ in_left p steps (fault_places log) (lists.all p (counted_place image log walk is p within))
     | inr fault ↦ in_right p steps (fault_places log) (fault_in log p.thread fault.fault p fault.ends refl (fault.at ∙ notes_are image log walk is p.thread))
-    ];
+  ];
   only = λ (p : Pos) (i : In p (steps ++ fault_places log)). elim (in-append p steps (fault_places log) i) [
-      inl j ↦ place_counted log walk p (omega (arith, lists.only p j, notes_are image log walk is p.thread))
+    | inl j ↦ place_counted log walk p (omega (arith, lists.only p j, notes_are image log walk is p.thread))
     | inr j ↦ fault_place image log walk is log.end refl p j
-    ];
+  ];
   once = distinct_push steps (fault_places log) lists.once (distinct_fault log log.end)
       (λ (p : Pos) (i : In p steps) (j : In p (fault_places log)).
-        false≢true (sym (counted_no_fault log p (lists.only p i) (is_fault log p) refl) ∙ faults_by log log.end p j));
+      false≢true (sym (counted_no_fault log p (lists.only p i) (is_fault log p) refl) ∙ faults_by log log.end p j));
 }
 
 whole_keeps : (log : Log) (before : Pos → Pos → Bool) (steps : List Pos) → Lists (Counted log) steps → Keeps (holds before) steps
@@ -161,10 +162,10 @@ whole_keeps : (log : Log) (before : Pos → Pos → Bool) (steps : List Pos) →
 whole_keeps log before steps lists keeps =
     tail_keep log before steps
     (keeps_by (holds before) (holds (before_fault log before)) steps
-      (λ (q p : Pos) (i : In q steps) (j : In p steps) (r : before_fault log before q p ≡ true).
-        either_by (is_fault log p) (before q p) (counted_no_fault log p (lists.only p j) (is_fault log p) refl)
-        (and_parts (not (is_fault log q)) (is_fault log p || before q p) r).1)
-      keeps)
+    (λ (q p : Pos) (i : In q steps) (j : In p steps) (r : before_fault log before q p ≡ true).
+    either_by (is_fault log p) (before q p) (counted_no_fault log p (lists.only p j) (is_fault log p) refl)
+    (and_parts (not (is_fault log q)) (is_fault log p || before q p) r).1)
+    keeps)
     (fault_places log) (λ (x : Pos) (i : In x (fault_places log)). faults_by log log.end x i) (fault_list log log.end)
 
 pub ordered_law : OrderedLaw

@@ -46,4 +46,4 @@ OrderedLaw = (image : Layout) (log : Log) (walk : Walk) (given : Given) (before 
     → Keeps (holds before) steps → Keeps (holds before) others → HoldsAlong image (told log walk) given (steps ++ fault_places log) start
     → HoldsAlong image (told log walk) given (others ++ fault_places log) other
     × ((p : Pos) → IsPlace (told log walk) p
-        → at (walk_along image (told log walk) given (steps ++ fault_places log) start) p ≡ at (walk_along image (told log walk) given (others ++ fault_places log) other) p)
+    → at (walk_along image (told log walk) given (steps ++ fault_places log) start) p ≡ at (walk_along image (told log walk) given (others ++ fault_places log) other) p)
