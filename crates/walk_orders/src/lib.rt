@@ -1,0 +1,4 @@
+//! Orders of the steps of a log.
+#![tactic(auto)]
+
+pub mod laws;
