@@ -5,3 +5,5 @@ pub mod Steps
 pub mod Exits
 pub mod Sorting
 pub mod Weaving
+pub mod Runs
+pub mod RecordedOrder
