@@ -161,7 +161,7 @@ exit_is_last log fit r has e =
       | inr le ↦ last_halts log.calls i.0 r i.1 (let many : length log.calls ≡ suc i.0 = omega (arith, within, le) in many)
     ]
 
-exit_halts : (t : ℕ) (c : Call) → is_exit c ≡ true → (code : ℕ) × (halt_then t (note.Called c) ≡ Some (halt.Exited t code))
+pub exit_halts : (t : ℕ) (c : Call) → is_exit c ≡ true → (code : ℕ) × (halt_then t (note.Called c) ≡ Some (halt.Exited t code))
 exit_halts t c e = let code : (code : ℕ) × (c ≡ call.Exit code) = exit_call c e in (code.0, ap (λ (x : Call). halt_then t (note.Called x)) code.1)
 
 faulted_exited : (t u code : ℕ) (fault : Cause) → end.Faulted t fault ≡ end.Exited u code → ⊥

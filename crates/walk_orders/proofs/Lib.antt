@@ -7,3 +7,5 @@ pub mod Sorting
 pub mod Weaving
 pub mod Runs
 pub mod RecordedOrder
+pub mod Decided
+pub mod Accesses

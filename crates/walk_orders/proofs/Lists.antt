@@ -100,3 +100,8 @@ keeps_standing R (x ∷ xs) distinct stands = (
     | inr s ↦ s
   ]),
 )
+
+pub keeps_stands : (R : Pos → Pos → Type 0) (p q : Pos) (xs : List Pos) → Keeps R xs → Stands xs p q → R q p → ⊥
+keeps_stands R p q [] keeps s r = s
+keeps_stands R p q (x ∷ xs) keeps (inl s) r = keeps.0 q s.1 (subst (λ (y : Pos). R q y) (sym s.0) r)
+keeps_stands R p q (x ∷ xs) keeps (inr s) r = keeps_stands R p q xs keeps.1 s r

@@ -16,6 +16,7 @@ use Rattle.guided_walk.proofs.Records.{Among, rec}
 use Rattle.guided_walk.proofs.Facts.{made_by_call}
 use Rattle.guided_walk.proofs.NeedsOrder.{among_contains}
 use Rattle.guided_walk.proofs.Placing.{in-append}
+use Rattle.walk_orders.specs.Law.{AreCounted}
 use Rattle.walk_orders.proofs.Lists.{in_right}
 use Rattle.walk_orders.proofs.Weave.{up_to, First}
 
@@ -252,9 +253,6 @@ in_merge (a ∷ chosen) rs z i = elim (in-append z (map place_of (take_to (leads
 
 abbrev pub AreCalls : Log → List CallRec → Type 0
 AreCalls log rs = (r : CallRec) → Among r rs → IsCall log r
-
-abbrev pub AreCounted : Log → List Pos → Type 0
-AreCounted log ps = (p : Pos) → In p ps → Counted log p
 
 -- a call that is recorded before a step is first among calls
 pub call_first : (log : Log) → NoRing log → (rs : List CallRec) (x : CallRec) (q : Pos) → Chain log rs → AreCalls log rs → Counted log q → Among x rs → RecordedOrder log (place_of x) q

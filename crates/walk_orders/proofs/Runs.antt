@@ -85,7 +85,7 @@ retired_by core t u reservation local writes shown there false w false s =
     ∙ child_zero (thread_at core t).local shown (u - length core.threads)
     ∙ sym (ap (λ (x : Thread). x.retired) (get_or_past core.threads u no_thread past))
 
-not_fell : (u t : ℕ) (n : Note) → fell u (halt_then t n) ≡ 0
+pub not_fell : (u t : ℕ) (n : Note) → fell u (halt_then t n) ≡ 0
 not_fell u t (note.Called (call.Exit code)) = refl
 not_fell u t (note.Faulted fault) = refl
 not_fell u t note.Nothing = refl
@@ -171,7 +171,7 @@ logged_run state happened log u is false w =
     ∙ ap (λ (t : ThreadLog). t.steps) (get_or_past (thread_logs 0 state.core.threads happened) u nothing_logged (omega (arith, past, length-thread_logs 0 state.core.threads happened)))
     ∙ sym (ap (λ (x : Thread). x.retired) (get_or_past state.core.threads u no_thread past))
 
-end_run : (state : State) (happened : List Event) (log : Log) → log_of state happened ≡ log → log.end ≡ end_of state.core
+pub end_run : (state : State) (happened : List Event) (log : Log) → log_of state happened ≡ log → log.end ≡ end_of state.core
 unfolding log_of
 end_run state happened log is = ap (λ (l : Log). l.end) (sym is)
 
@@ -198,14 +198,15 @@ pub record Ran (done : List Pos) (state : State) : Type 0 where
   pub retired : (u : ℕ) → (thread_at state.core u).retired ≡ count u done
   pub many : length state.core.threads ≡ made state.core.calls
 
-opening_ran : (image : Layout) (tape : List ℕ) → Ran [] (opening image tape)
+pub opening_ran : (image : Layout) (tape : List ℕ) → Ran [] (opening image tape)
 opening_ran image tape = record { retired = first_retired image tape; many = refl }
 
 -- a step faults, and the machine halts, or it goes on
-data StepOf (image : Layout) (state : State) (done : List Pos) (t : ℕ) : Type 0 where
-  Stops : {fault : Cause} → (step image state t).note ≡ note.Faulted fault → is_none (step image state t).state.core.halt ≡ false → StepOf image state done t
+pub data StepOf (image : Layout) (state : State) (done : List Pos) (t : ℕ) : Type 0 where
+  Stops : {fault : Cause} → (step image state t).note ≡ note.Faulted fault → (step image state t).state.core.halt ≡ Some (halt.Faulted t fault) → StepOf image state done t
   Moves : Ran (Next t done) (step image state t).state → MakesNext (length state.core.threads) (step image state t).note
-      → length state.core.threads ≤ length (step image state t).state.core.threads → StepOf image state done t
+      → length state.core.threads ≤ length (step image state t).state.core.threads → (step image state t).state.core.halt ≡ halt_then t (step image state t).note
+      → StepOf image state done t
 
 one_more : (b : Bool) (n k : ℕ) → n ≡ k → cond b (n + 1) n ≡ cond b (suc k) k
 one_more true n k e = omega (arith, e)
@@ -216,7 +217,7 @@ step_of_by : (image : Layout) (state : State) (done : List Pos) (t : ℕ) → Ra
 step_of_by image state done t ran there (Faults fault) e =
     let is : step image state t ≡ after_effect state (applied state.core t (reserving_by image (thread_at state.core t)) (Faults fault)) =
     step_is image state t ∙ ap (λ (o : Outcome). after_effect state (applied state.core t (reserving_by image (thread_at state.core t)) o)) e in
-    Stops {fault = fault} (ap (λ (s : Stepped). s.note) is) (ap (λ (s : Stepped). is_none s.state.core.halt) is)
+    Stops {fault = fault} (ap (λ (s : Stepped). s.note) is) (ap (λ (s : Stepped). s.state.core.halt) is)
 step_of_by image state done t ran there (Goes local writes shown) e =
     let thread : Thread = thread_at state.core t in
     let reservation : Option ℕ = reserving_by image thread in
@@ -232,13 +233,14 @@ step_of_by image state done t ran there (Goes local writes shown) e =
     Moves (subst (λ (s : Stepped). Ran (Next t done) s.state) (sym is) after)
     (subst (λ (s : Stepped). MakesNext (length state.core.threads) s.note) (sym is) makes)
     (subst (λ (s : Stepped). length state.core.threads ≤ length s.state.core.threads) (sym is) (more_then state.core t reservation local writes shown makes))
+    (subst (λ (s : Stepped). s.state.core.halt ≡ halt_then t s.note) (sym is) refl)
 
-step_of : (image : Layout) (state : State) (done : List Pos) (t : ℕ) → Ran done state → is_enabled image state t ≡ true → StepOf image state done t
+pub step_of : (image : Layout) (state : State) (done : List Pos) (t : ℕ) → Ran done state → is_enabled image state t ≡ true → StepOf image state done t
 step_of image state done t ran enabled =
     step_of_by image state done t ran (enabled_within image state t enabled) (outcome_by image (memory_of image state) state.core.calls t (thread_at state.core t)) refl
 
 -- nothing runs after a halt
-halted_rest : (image : Layout) (state : State) (schedule : List ℕ) → Runs image state schedule → is_none state.core.halt ≡ false → schedule ≡ []
+pub halted_rest : (image : Layout) (state : State) (schedule : List ℕ) → Runs image state schedule → is_none state.core.halt ≡ false → schedule ≡ []
 halted_rest image state [] runs halted = refl
 halted_rest image state (t ∷ schedule) runs halted = absurd (false≢true (sym halted ∙ enabled_goes image state t runs.0))
 
@@ -255,19 +257,19 @@ run_places image state done (t ∷ schedule) ran runs =
       rest : StepOf image state done t → (Ran (Next t done) (step image state t).state → map place_at (events image (step image state t).state schedule) ≡ places_after (Next t done) schedule)
           → map place_at (events image (step image state t).state schedule) ≡ places_after (Next t done) schedule
       rest (Stops shows halted) again =
-          subst (λ (s : List ℕ). map place_at (events image (step image state t).state s) ≡ places_after (Next t done) s) (sym (halted_rest image (step image state t).state schedule runs.1 halted)) refl
-      rest (Moves after makes more) again = again after
+          subst (λ (s : List ℕ). map place_at (events image (step image state t).state s) ≡ places_after (Next t done) s) (sym (halted_rest image (step image state t).state schedule runs.1 (ap is_none halted))) refl
+      rest (Moves after makes more halts) again = again after
 
 -- ---- the records of events
 
-record_place : (t at : ℕ) (n : Note) (r : CallRec) → record_in (let e : Event = record { thread = t; at = at; note = n } in e) ≡ Some r → (place_of r ≡ (let p : Pos = record { thread = t; step = at } in p)) × (n ≡ note.Called r.call)
+pub record_place : (t at : ℕ) (n : Note) (r : CallRec) → record_in (let e : Event = record { thread = t; at = at; note = n } in e) ≡ Some r → (place_of r ≡ (let p : Pos = record { thread = t; step = at } in p)) × (n ≡ note.Called r.call)
 record_place t at (note.Called made) r e = (ap place_of (sym (same_Some (rec t at made) r e)), ap (λ (x : CallRec). note.Called x.call) (same_Some (rec t at made) r e))
 record_place t at note.Nothing r e = absurd (none-some r e)
 record_place t at (note.Branch taken) r e = absurd (none-some r e)
 record_place t at (note.Jump target) r e = absurd (none-some r e)
 record_place t at (note.Faulted fault) r e = absurd (none-some r e)
 
-record_in_by : (e : Event) (later : List Event) (r : CallRec) → (o : Option CallRec) → record_in e ≡ o → Among r (cons_some o (records_of later)) → ((record_in e ≡ Some r) ⊎ Among r (records_of later))
+pub record_in_by : (e : Event) (later : List Event) (r : CallRec) → (o : Option CallRec) → record_in e ≡ o → Among r (cons_some o (records_of later)) → ((record_in e ≡ Some r) ⊎ Among r (records_of later))
 record_in_by e later r None is has = inr has
 record_in_by e later r (Some x) is (inl same) = inl (is ∙ ap (λ (y : CallRec). Some y) same)
 record_in_by e later r (Some x) is (inr has) = inr has
@@ -313,7 +315,7 @@ pub record Spawned (threads : ℕ) (steps : List Pos) (spawn : Pos) (u : ℕ) : 
   pub past : threads ≤ u
   pub stands : (q : Pos) → In q steps → q.thread ≡ u → Stands steps spawn q
 
-faulted_called : (fault : Cause) (c : Call) → note.Faulted fault ≡ note.Called c → ⊥
+pub faulted_called : (fault : Cause) (c : Call) → note.Faulted fault ≡ note.Called c → ⊥
 faulted_called fault c e = cc
 
 -- of the first step of a run, and of a later one
@@ -361,16 +363,16 @@ run_spawns image state done (t ∷ schedule) r entry u ran runs is has =
           → Spawned (length state.core.threads) (map place_at (events image state (t ∷ schedule))) (place_of r) u
       by_step (Stops {fault = fault} shows halted) (inl here) again = absurd (faulted_called fault (call.Spawn entry (Some u)) (sym shows ∙ shown here))
       by_step (Stops shows halted) (inr later) again =
-          absurd (subst (λ (s : List ℕ). Among r (records_of (events image next s))) (halted_rest image next schedule runs.1 halted) later)
-      by_step (Moves after makes more) (inl here) again =
+          absurd (subst (λ (s : List ℕ). Among r (records_of (events image next s))) (halted_rest image next schedule runs.1 (ap is_none halted)) later)
+      by_step (Moves after makes more halts) (inl here) again =
           spawned_now (length state.core.threads) t head.at (map place_at (events image next schedule)) r u there (child_next (length state.core.threads) head.note entry u makes (shown here))
           (record_place head.thread head.at head.note r here).0
-      by_step (Moves after makes more) (inr later) again =
+      by_step (Moves after makes more halts) (inr later) again =
           spawned_later (length state.core.threads) (length next.core.threads) t head.at (map place_at (events image next schedule)) r u there more (again after later)
 
 -- ---- a schedule that has a log keeps its recorded order
 
-calls_run : (state : State) (happened : List Event) (log : Log) → log_of state happened ≡ log → records_of happened ≡ log.calls
+pub calls_run : (state : State) (happened : List Event) (log : Log) → log_of state happened ≡ log → records_of happened ≡ log.calls
 unfolding log_of
 calls_run state happened log is = ap (λ (l : Log). l.calls) is
 

@@ -30,12 +30,12 @@ use Rattle.guided_walk.proofs.Walks.{called}
 use Rattle.guided_walk.proofs.Records.{Among, among_at, at_among, among_filter, filter_among, rec}
 use Rattle.guided_walk.proofs.Facts.{called_noted}
 use Rattle.guided_walk.proofs.CallOrder.{record_counted, calls_ordered}
-use Rattle.guided_walk.proofs.Placing.{in-append, done_after, places-append}
+use Rattle.guided_walk.proofs.Placing.{in-append, distinct_places, done_after, places-append}
 use Rattle.walk_orders.specs.Total.{IsTotal, ArePairs, ComesFrom}
-use Rattle.walk_orders.specs.Law.{WeavingLaw}
-use Rattle.walk_orders.proofs.Lists.{in_right, in_filter, filter_in, stands_then, stands_once, keeps_standing}
+use Rattle.walk_orders.specs.Law.{AreCounted, WeavingLaw}
+use Rattle.walk_orders.proofs.Lists.{in_right, in_filter, filter_in, stands_left, stands_then, stands_once, keeps_standing}
 use Rattle.walk_orders.proofs.Weave.{up_to, weave, First, in_weave, weave_first, own_weave, threads_of}
-use Rattle.walk_orders.proofs.Merge.{UpTo, NoRing, IsCall, Chain, AreCalls, AreCounted, LedTo, leads, first_left, first_of_all, in_merge, merge, merge_call, merge_chosen}
+use Rattle.walk_orders.proofs.Merge.{UpTo, NoRing, IsCall, Chain, AreCalls, LedTo, leads, first_left, first_of_all, in_merge, merge, merge_call, merge_chosen}
 use Rattle.walk_orders.proofs.Steps.{all_steps, AreSteps, all_are, steps_places, steps_times, steps_list, steps_rise}
 use Rattle.walk_orders.proofs.Exits.{contains_among, earlier_goes, exits, ExitsBy, exits_by, exit_by, exits_true, is_exit_by, same_exit, exit_ends_thread, no_exit_at_fault, exit_keeps, no_exits_last}
 use Rattle.walk_orders.proofs.Sorting.{sorted_by, in_sorted, sorted_in, sorted_keeps}
@@ -312,6 +312,9 @@ weaving_law image log walk chosen before is fit counted goes_on total =
     let whole : places (list ++ faulting log.end) ≡ steps ++ fault_places log =
     places-append [] list (faulting log.end) ∙ ap (λ (xs : List Pos). xs ++ places_after (done_after [] list) (faulting log.end)) placed
     ∙ ap (λ (xs : List Pos). steps ++ xs) (fault_after log list log.end (steps_times log steps are)) in
+    let in_schedule : (p q : Pos) → In p chosen → In q chosen → before p q ≡ true → Stands (places (list ++ faulting log.end)) p q =
+    λ (p q : Pos) (i : In p chosen) (j : In q chosen) (e : before p q ≡ true).
+    subst (λ (xs : List Pos). Stands xs p q) (sym whole) (stands_left p q steps (fault_places log) (stand p q i j e)) in
     record {
       steps = steps;
       lists = lists;
@@ -320,6 +323,10 @@ weaving_law image log walk chosen before is fit counted goes_on total =
       decided = λ (p q : Pos) (i : In p chosen) (j : In q chosen). (decided_by log chosen before steps total lists.once stand p q i j, stand p q i j);
       schedule = list ++ faulting log.end;
       is = whole;
+      decides = λ (p q : Pos) (i : In p chosen) (j : In q chosen). (
+        decided_by log chosen before (places (list ++ faulting log.end)) total (distinct_places [] (list ++ faulting log.end)) in_schedule p q i j,
+        in_schedule p q i j,
+      );
       woven = λ (pairs : List (Pos × Pos)) (within : ArePairs chosen (holds before) pairs). record {
         counted = list;
         whole = refl;

@@ -3,21 +3,40 @@ use Rattle.std.specs.Prelude.{ℕ, Bool, List}
 use Rattle.elf_image.specs.Layout.{Layout}
 use Rattle.odr_log.specs.declared.log.Log.{Log}
 use Rattle.odr_log.specs.declared.log.Pos.{Pos}
+use Rattle.rv_model.specs.Run.{HasLog}
 use Rattle.rv_model.specs.Walk.{Walk, IsWalk}
+use Rattle.rv_model.specs.Accesses.{accesses_of}
 use Rattle.rv_model.specs.CallsFit.{CallsFit}
 use Rattle.rv_model.specs.RecordedOrder.{Counted, RecordedOrder}
 use Rattle.guided_walk.specs.Orders.{In}
 use Rattle.guided_walk.specs.Ordered.{IsExit, Ordered}
 use Rattle.guided_walk.specs.Law.{holds}
-use Rattle.walk_orders.specs.Total.{IsTotal, ComesFrom}
+use Rattle.guided_walk.specs.Woven.{Woven}
+use Rattle.walk_orders.specs.Total.{IsTotal, Decides, ArePairs, ComesFrom}
+
+abbrev pub AreCounted : Log → List Pos → Type 0
+AreCounted log steps = (p : Pos) → In p steps → Counted log p
 
 -- Where the walk is defined and the calls fit, the recorded order is ordered.
 abbrev pub RecordedIsOrdered : Type 0
 RecordedIsOrdered = (image : Layout) (log : Log) (walk : Walk) → IsWalk image log walk → CallsFit log → Ordered image log (RecordedOrder log)
 
--- Where the walk is defined and the calls fit, every total order of chosen counted steps without an exit that agrees with
--- the recorded order comes from one list of all counted steps.
+-- Where the walk is defined and the calls fit, every total order of chosen counted steps without an exit, as accesses are,
+-- that agrees with the recorded order comes from one list of all counted steps.
 abbrev pub WeavingLaw : Type 0
 WeavingLaw = (image : Layout) (log : Log) (walk : Walk) (chosen : List Pos) (before : Pos → Pos → Bool) → IsWalk image log walk → CallsFit log
-    → ((p : Pos) → In p chosen → Counted log p) → ((p : Pos) → In p chosen → IsExit log p → ⊥) → IsTotal log chosen (holds before)
-    → ComesFrom log chosen (holds before)
+    → AreCounted log chosen → ((p : Pos) → In p chosen → IsExit log p → ⊥) → IsTotal log chosen (holds before) → ComesFrom log chosen (holds before)
+
+-- An access is a counted step and no exit.
+abbrev pub AccessesGoOn : Type 0
+AccessesGoOn = (image : Layout) (log : Log) (walk : Walk) (p : Pos) → IsWalk image log walk → In p (accesses_of walk) → Counted log p × (IsExit log p → ⊥)
+
+-- What a woven schedule decides of counted steps is a total order that agrees with the recorded order.
+abbrev pub WovenDecides : Type 0
+WovenDecides = (log : Log) (pairs : List (Pos × Pos)) (schedule : List ℕ) (chosen : List Pos) → CallsFit log → Woven log pairs schedule
+    → AreCounted log chosen → IsTotal log chosen (Decides schedule)
+
+-- A schedule that has the log is woven for each list of pairs of counted steps that it decides so.
+abbrev pub LoggedIsWoven : Type 0
+LoggedIsWoven = (image : Layout) (log : Log) (walk : Walk) (schedule : List ℕ) (chosen : List Pos) (pairs : List (Pos × Pos)) → IsWalk image log walk → CallsFit log
+    → HasLog image log schedule → AreCounted log chosen → ArePairs chosen (Decides schedule) pairs → Woven log pairs schedule

@@ -16,12 +16,17 @@ pub record IsTotal (log : Log) (chosen : List Pos) (before : Pos → Pos → Typ
   pub total : (p q : Pos) → In p chosen → In q chosen → p ≢ q → before p q ⊎ before q p
   pub agrees : (p q : Pos) → In p chosen → In q chosen → RecordedOrder log p q → before p q
 
+-- what a schedule decides: which of two steps stands first
+abbrev pub Decides : List ℕ → Pos → Pos → Type 0
+Decides schedule = Stands (places schedule)
+
 -- pairs of chosen steps, each in its order
 abbrev pub ArePairs : List Pos → (Pos → Pos → Type 0) → List (Pos × Pos) → Type 0
 ArePairs chosen before pairs = (p q : Pos) → Contains pairs (p, q) → In p chosen × In q chosen × before p q
 
--- One list of all counted steps keeps the recorded order and has an exit last. It has the chosen steps in their order. As a
--- schedule, with the fault behind it, it is woven for each list of pairs of chosen steps that are in their order.
+-- One list of all counted steps keeps the recorded order and has an exit last, and the chosen steps stand in it in their
+-- order. As a schedule, with the fault behind it, it decides this order, and is woven for each list of pairs of chosen
+-- steps that are in their order.
 pub record ComesFrom (log : Log) (chosen : List Pos) (before : Pos → Pos → Type 0) : Type 0 where
   pub steps : List Pos
   pub lists : Lists (Counted log) steps
@@ -30,4 +35,5 @@ pub record ComesFrom (log : Log) (chosen : List Pos) (before : Pos → Pos → T
   pub decided : (p q : Pos) → In p chosen → In q chosen → Stands steps p q ↔ before p q
   pub schedule : List ℕ
   pub is : places schedule ≡ steps ++ fault_places log
+  pub decides : (p q : Pos) → In p chosen → In q chosen → Decides schedule p q ↔ before p q
   pub woven : (pairs : List (Pos × Pos)) → ArePairs chosen before pairs → Woven log pairs schedule

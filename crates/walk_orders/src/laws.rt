@@ -1,4 +1,4 @@
-ghost use Rattle.walk_orders.specs.Law.{RecordedIsOrdered, WeavingLaw};
+ghost use Rattle.walk_orders.specs.Law.{RecordedIsOrdered, WeavingLaw, AccessesGoOn, WovenDecides, LoggedIsWoven};
 
 /// The recorded order of a log is ordered, where the log's walk is defined and its calls fit.
 pub fn recorded_order_is_ordered()
@@ -9,4 +9,19 @@ pub fn recorded_order_is_ordered()
 /// all counted steps.
 pub fn total_orders_are_woven()
     ensures { WeavingLaw }
+{}
+
+/// An access is a counted step and no exit.
+pub fn accesses_go_on()
+    ensures { AccessesGoOn }
+{}
+
+/// What a woven schedule decides of counted steps is a total order that agrees with the recorded order.
+pub fn woven_schedules_decide()
+    ensures { WovenDecides }
+{}
+
+/// A schedule that has the log is woven for each list of pairs of counted steps that it decides so.
+pub fn logged_schedules_are_woven()
+    ensures { LoggedIsWoven }
 {}
