@@ -32,7 +32,7 @@ use Rattle.guided_walk.proofs.Records.{Among, among_at, at_among, rec}
 use Rattle.guided_walk.proofs.Facts.{in_log, place_called, CalledAt, called_place, called_noted, last_once}
 use Rattle.guided_walk.proofs.NeedsOrder.{among_contains}
 use Rattle.guided_walk.proofs.ScheduleLaw.{notes_are}
-use Rattle.walk_orders.proofs.Weave.{up_to}
+use Rattle.walk_orders.specs.RecordedTest.{up_to}
 
 pub contains_among : (xs : List CallRec) (r : CallRec) → Contains xs r → Among r xs
 contains_among xs r has = among_at xs has.0 r (slice_get_read xs (length xs) has.0 r refl has.1 (sym has.2))

@@ -7,5 +7,6 @@ pub mod Sorting
 pub mod Weaving
 pub mod Runs
 pub mod RecordedOrder
+pub mod Test
 pub mod Decided
 pub mod Accesses

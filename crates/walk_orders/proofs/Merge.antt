@@ -16,9 +16,10 @@ use Rattle.guided_walk.proofs.Records.{Among, rec}
 use Rattle.guided_walk.proofs.Facts.{made_by_call}
 use Rattle.guided_walk.proofs.NeedsOrder.{among_contains}
 use Rattle.guided_walk.proofs.Placing.{in-append}
+use Rattle.walk_orders.specs.RecordedTest.{up_to, leads, passes}
 use Rattle.walk_orders.specs.Law.{AreCounted}
 use Rattle.walk_orders.proofs.Lists.{in_right}
-use Rattle.walk_orders.proofs.Weave.{up_to, First}
+use Rattle.walk_orders.proofs.Weave.{First}
 
 -- ---- the recorded order
 
@@ -64,10 +65,6 @@ not_up_to log z q to from never = not_up_to_by log z q to from never (up_to z q)
 
 -- ---- calls that lead to a step
 
--- a call of the step's thread that stands up to it, or the spawn that made the thread
-abbrev pub leads : Pos → CallRec → Bool
-leads p r = up_to p (place_of r) || makes p.thread r.call
-
 -- a record of the log, of a counted step
 pub record IsCall (log : Log) (r : CallRec) : Type 0 where
   pub among : Among r log.calls
@@ -84,10 +81,6 @@ pub leads_up_to : (log : Log) (p : Pos) (r : CallRec) → Counted log p → IsCa
 leads_up_to log p r to is passes = leads_by log p r to is (up_to p (place_of r)) refl passes
 
 -- ---- records up to the last that passes a test, and the others
-
-abbrev passes : (CallRec → Bool) → List CallRec → Bool
-passes test [] = false
-passes test (r ∷ rs) = test r || passes test rs
 
 abbrev pub take_to : (CallRec → Bool) → List CallRec → List CallRec
 take_to test [] = []
@@ -107,11 +100,11 @@ found_by : (test : CallRec → Bool) (r : CallRec) (rs : List CallRec) → (b : 
 found_by test r rs true e h rest = (r, inl refl, e)
 found_by test r rs false e h rest = let c : (c : CallRec) × Among c rs × (test c ≡ true) = rest h in (c.0, inr c.1, c.2)
 
-found : (test : CallRec → Bool) (rs : List CallRec) → passes test rs ≡ true → (c : CallRec) × Among c rs × (test c ≡ true)
+pub found : (test : CallRec → Bool) (rs : List CallRec) → passes test rs ≡ true → (c : CallRec) × Among c rs × (test c ≡ true)
 found test [] e = absurd (false≢true e)
 found test (r ∷ rs) e = found_by test r rs (test r) refl e (found test rs)
 
-passes_by : (test : CallRec → Bool) (rs : List CallRec) (c : CallRec) → Among c rs → test c ≡ true → passes test rs ≡ true
+pub passes_by : (test : CallRec → Bool) (rs : List CallRec) (c : CallRec) → Among c rs → test c ≡ true → passes test rs ≡ true
 passes_by test [] c has e = absurd has
 passes_by test (r ∷ rs) c (inl same) e = ap (λ (b : Bool). b || passes test rs) (ap test same ∙ e)
 passes_by test (r ∷ rs) c (inr has) e = or_true (test r) (passes test rs) (passes_by test rs c has e) where

@@ -33,7 +33,7 @@ use Rattle.walk_orders.proofs.Runs.{run_keeps}
 
 -- ---- the flow is recorded
 
-contains_at : (xs : List CallRec) (r : CallRec) → (has : Contains xs r) → slice_get xs has.0 ≡ Some r
+pub contains_at : (xs : List CallRec) (r : CallRec) → (has : Contains xs r) → slice_get xs has.0 ≡ Some r
 contains_at xs r has = slice_get_read xs (length xs) has.0 r refl has.1 (sym has.2)
 
 edge_recorded : (log : Log) → CallsFit log → (p q : Pos) → CountedFlow log p q → FlowEdge log p q → RecordedOrder log p q

@@ -9,11 +9,8 @@ use Rattle.guided_walk.specs.Orders.{In, Stands}
 use Rattle.guided_walk.specs.Schedules.{count, next_of, places_after, times}
 use Rattle.guided_walk.proofs.Along.{Next, count_own, count_other}
 use Rattle.guided_walk.proofs.Placing.{in-append, in_left}
+use Rattle.walk_orders.specs.RecordedTest.{up_to}
 use Rattle.walk_orders.proofs.Lists.{in_right, in_filter, filter_in, stands_left, stands_right, stands_across}
-
--- a step is another of its thread, or stands before it there
-abbrev pub up_to : Pos → Pos → Bool
-up_to z q = nat_eq q.thread z.thread && nat_le q.step z.step
 
 abbrev pub beyond : Pos → Pos → Bool
 beyond z q = not (up_to z q)
@@ -96,8 +93,7 @@ none_up_to z thread step zero past = (refl, refl)
 none_up_to z thread step (suc n) past =
     let p : Pos = record { thread = thread; step = step } in
     let rest : (filter (up_to z) (rising thread (step + 1) n) ≡ []) × (filter (beyond z) (rising thread (step + 1) n) ≡ rising thread (step + 1) n) =
-    none_up_to z thread (step + 1) n (let e : up_to z (record { thread = thread; step = step + 1 }) ≡ up_to z (record { thread = thread; step = step + 1 }) = refl in
-    e ∙ later_beyond z thread step past (up_to z (record { thread = thread; step = step + 1 })) refl) in (
+    none_up_to z thread (step + 1) n (later_beyond z thread step past (up_to z (record { thread = thread; step = step + 1 })) refl) in (
       ap (λ (b : Bool). cond b (p ∷ filter (up_to z) (rising thread (step + 1) n)) (filter (up_to z) (rising thread (step + 1) n))) past ∙ rest.0,
       ap (λ (b : Bool). cond (not b) (p ∷ filter (beyond z) (rising thread (step + 1) n)) (filter (beyond z) (rising thread (step + 1) n))) past
       ∙ ap (λ (xs : List Pos). p ∷ xs) rest.1,

@@ -32,10 +32,11 @@ use Rattle.guided_walk.proofs.Facts.{called_noted}
 use Rattle.guided_walk.proofs.CallOrder.{record_counted, calls_ordered}
 use Rattle.guided_walk.proofs.Placing.{in-append, distinct_places, done_after, places-append}
 use Rattle.walk_orders.specs.Total.{IsTotal, ArePairs, ComesFrom}
+use Rattle.walk_orders.specs.RecordedTest.{up_to}
 use Rattle.walk_orders.specs.Law.{AreCounted, WeavingLaw}
 use Rattle.walk_orders.proofs.Lists.{in_right, in_filter, filter_in, stands_left, stands_then, stands_once, keeps_standing}
-use Rattle.walk_orders.proofs.Weave.{up_to, weave, First, in_weave, weave_first, own_weave, threads_of}
-use Rattle.walk_orders.proofs.Merge.{UpTo, NoRing, IsCall, Chain, AreCalls, LedTo, leads, first_left, first_of_all, in_merge, merge, merge_call, merge_chosen}
+use Rattle.walk_orders.proofs.Weave.{weave, First, in_weave, weave_first, own_weave, threads_of}
+use Rattle.walk_orders.proofs.Merge.{UpTo, NoRing, IsCall, Chain, AreCalls, LedTo, first_left, first_of_all, in_merge, merge, merge_call, merge_chosen}
 use Rattle.walk_orders.proofs.Steps.{all_steps, AreSteps, all_are, steps_places, steps_times, steps_list, steps_rise}
 use Rattle.walk_orders.proofs.Exits.{contains_among, earlier_goes, exits, ExitsBy, exits_by, exit_by, exits_true, is_exit_by, same_exit, exit_ends_thread, no_exit_at_fault, exit_keeps, no_exits_last}
 use Rattle.walk_orders.proofs.Sorting.{sorted_by, in_sorted, sorted_in, sorted_keeps}
@@ -83,6 +84,9 @@ chain_from log (r ∷ rs) ordered = (
   λ (s : CallRec) (has : Among s rs). let n : (n : ℕ) × (slice_get rs n ≡ Some s) = at_among rs s has in ordered 0 (suc n.0) r s refl n.1 (omega arith),
   chain_from log rs (λ (m n : ℕ) (x y : CallRec) (p : slice_get rs m ≡ Some x) (q : slice_get rs n ≡ Some y) (less : m < n). ordered (suc m) (suc n) x y p q (omega (arith, less))),
 )
+
+pub chain_all : (image : Layout) (log : Log) (walk : Walk) → IsWalk image log walk → Chain log log.calls
+chain_all image log walk is = chain_from log log.calls (calls_ordered image log walk is)
 
 chain_filter_by : (log : Log) (test : CallRec → Bool) (r : CallRec) (rs : List CallRec) → Chain log (r ∷ rs) → (b : Bool) → Chain log (filter test rs) → Chain log (cond b (r ∷ filter test rs) (filter test rs))
 chain_filter_by log test r rs chain true rest = (λ (s : CallRec) (has : Among s (filter test rs)). chain.0 s (among_filter test rs s has).0, rest)
@@ -154,7 +158,7 @@ exit_after image log walk chosen is fit choice p q counted exit ne =
 -- ---- what stands before what
 
 chain_going : (image : Layout) (log : Log) (walk : Walk) → IsWalk image log walk → Chain log (going log)
-chain_going image log walk is = chain_filter log goes log.calls (chain_from log log.calls (calls_ordered image log walk is))
+chain_going image log walk is = chain_filter log goes log.calls (chain_all image log walk is)
 
 calls_going : (image : Layout) (log : Log) (walk : Walk) → IsWalk image log walk → AreCalls log (going log)
 calls_going image log walk is r has =

@@ -1,5 +1,5 @@
 -- Laws of orders of a log's steps, each the contract of a public function.
-use Rattle.std.specs.Prelude.{ℕ, Bool, List}
+use Rattle.std.specs.Prelude.{◌↔◌, ℕ, Bool, List}
 use Rattle.elf_image.specs.Layout.{Layout}
 use Rattle.odr_log.specs.declared.log.Log.{Log}
 use Rattle.odr_log.specs.declared.log.Pos.{Pos}
@@ -12,6 +12,7 @@ use Rattle.guided_walk.specs.Orders.{In}
 use Rattle.guided_walk.specs.Ordered.{IsExit, Ordered}
 use Rattle.guided_walk.specs.Law.{holds}
 use Rattle.guided_walk.specs.Woven.{Woven}
+use Rattle.walk_orders.specs.RecordedTest.{recorded_before}
 use Rattle.walk_orders.specs.Total.{IsTotal, Decides, ArePairs, ComesFrom}
 
 abbrev pub AreCounted : Log → List Pos → Type 0
@@ -20,6 +21,13 @@ AreCounted log steps = (p : Pos) → In p steps → Counted log p
 -- Where the walk is defined and the calls fit, the recorded order is ordered.
 abbrev pub RecordedIsOrdered : Type 0
 RecordedIsOrdered = (image : Layout) (log : Log) (walk : Walk) → IsWalk image log walk → CallsFit log → Ordered image log (RecordedOrder log)
+
+-- There the test that only looks at the calls is the recorded order, and so it is ordered too.
+abbrev pub RecordedTest : Type 0
+RecordedTest = (image : Layout) (log : Log) (walk : Walk) → IsWalk image log walk → CallsFit log → (p q : Pos) → holds (recorded_before log) p q ↔ RecordedOrder log p q
+
+abbrev pub TestIsOrdered : Type 0
+TestIsOrdered = (image : Layout) (log : Log) (walk : Walk) → IsWalk image log walk → CallsFit log → Ordered image log (holds (recorded_before log))
 
 -- Where the walk is defined and the calls fit, every total order of chosen counted steps without an exit, as accesses are,
 -- that agrees with the recorded order comes from one list of all counted steps.

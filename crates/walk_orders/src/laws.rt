@@ -1,8 +1,14 @@
-ghost use Rattle.walk_orders.specs.Law.{RecordedIsOrdered, WeavingLaw, AccessesGoOn, WovenDecides, LoggedIsWoven};
+ghost use Rattle.walk_orders.specs.Law.{RecordedIsOrdered, RecordedTest, TestIsOrdered, WeavingLaw, AccessesGoOn, WovenDecides, LoggedIsWoven};
 
 /// The recorded order of a log is ordered, where the log's walk is defined and its calls fit.
 pub fn recorded_order_is_ordered()
     ensures { RecordedIsOrdered }
+{}
+
+/// The recorded order of a log is a test that only looks at the log's calls and counts of steps.
+pub fn recorded_order_is_tested()
+    ensures test { RecordedTest }
+    ensures ordered { TestIsOrdered }
 {}
 
 /// Every total order of chosen counted steps without an exit that agrees with the recorded order comes from one list of
