@@ -1,5 +1,5 @@
 -- An access is a counted step, and no exit.
-use Rattle.std.specs.Prelude.{◌≡◌, ℕ, zero, suc, ◌+◌, ◌<◌, ◌⊎◌, Bool, true, false, cond, List, [], ◌∷◌, ◌++◌, length, Some, refl}
+use Rattle.std.specs.Prelude.{◌≡◌, ℕ, suc, ◌+◌, ◌<◌, Bool, true, false, cond, List, [], ◌∷◌, length, refl}
 use Rattle.std.proofs.Common.{sym, ◌∙◌, ap, subst, arith, inl, inr, get_or}
 use Rattle.std.proofs.lemmas.Bool.{false≢true}
 use Rattle.elf_image.specs.Layout.{Layout}
@@ -7,19 +7,16 @@ use Rattle.rv32_decode.specs.declared.instr.Instr.{Instr}
 use Rattle.rv32_decode.specs.declared.instr.Instr.TheVariants as instr
 use Rattle.odr_log.specs.declared.log.Call.{Call}
 use Rattle.odr_log.specs.declared.log.Call.TheVariants as call
-use Rattle.odr_log.specs.declared.log.Log.{Log}
 use Rattle.odr_log.specs.declared.log.Pos.{Pos}
 use Rattle.rv_model.specs.declared.state.Note.{Note}
 use Rattle.rv_model.specs.declared.state.Note.TheVariants as note
 use Rattle.rv_model.specs.declared.walk.Place.{Place}
-use Rattle.rv_model.specs.Accesses.{is_access, accesses_from, accesses_by, accesses_of}
-use Rattle.rv_model.specs.Walk.{Walk, places_of, notes_of, transfer_of, Leads, ThreadWalk, IsWalk}
-use Rattle.rv_model.specs.RecordedOrder.{Counted}
-use Rattle.guided_walk.specs.Told.{told, place_of, noted}
+use Rattle.rv_model.specs.Accesses.{is_access, accesses_from, accesses_by}
+use Rattle.rv_model.specs.Walk.{places_of, notes_of, transfer_of, Leads, ThreadWalk}
 use Rattle.guided_walk.specs.Orders.{In}
 use Rattle.guided_walk.specs.Ordered.{IsExit}
 use Rattle.guided_walk.proofs.Walks.{Shape, shape}
-use Rattle.guided_walk.proofs.Records.{Among, rec}
+use Rattle.guided_walk.proofs.Records.{rec}
 use Rattle.guided_walk.proofs.Facts.{in_log, CalledAt, called_place}
 use Rattle.guided_walk.proofs.NeedsOrder.{counted_place}
 use Rattle.guided_walk.proofs.Placing.{in-append}

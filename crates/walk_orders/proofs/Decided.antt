@@ -1,12 +1,11 @@
 -- What woven schedules decide, and schedules that have a log are woven.
-use Rattle.std.specs.Prelude.{◌≡◌, ◌≢◌, ℕ, zero, suc, ◌+◌, ◌<◌, ◌≤◌, ◌⊎◌, Bool, true, false, cond, List, [], ◌∷◌, ◌++◌, length, map, nat_eq, Option, Some, None, is_some, is_none, Contains, refl}
+use Rattle.std.specs.Prelude.{◌≡◌, ◌≢◌, ℕ, ◌+◌, ◌⊎◌, Bool, true, false, cond, List, [], ◌∷◌, ◌++◌, length, map, nat_eq, Option, Some, None, is_some, is_none, Contains, refl}
 use Rattle.std.specs.List.{list_all}
 use Rattle.std.proofs.Common.{sym, ◌∙◌, ap, subst, arith, inl, inr, eq-eqb}
 use Rattle.std.proofs.lemmas.Bool.{false≢true}
 use Rattle.std.proofs.lemmas.List.{append-nil, length-append}
 use Rattle.elf_image.specs.Layout.{Layout}
 use Rattle.odr_log.specs.declared.log.Cause.{Cause}
-use Rattle.odr_log.specs.declared.log.Call.{Call}
 use Rattle.odr_log.specs.declared.log.CallRec.{CallRec}
 use Rattle.odr_log.specs.declared.log.End.{End}
 use Rattle.odr_log.specs.declared.log.End.TheVariants as end
@@ -20,26 +19,26 @@ use Rattle.rv_model.specs.declared.state.Note.{Note}
 use Rattle.rv_model.specs.declared.state.Note.TheVariants as note
 use Rattle.rv_model.specs.declared.state.State.{State}
 use Rattle.rv_model.specs.Step.{opening, halt_then, step}
-use Rattle.rv_model.specs.Run.{Runs, final, events, event_of, record_in, records_of, log_of, HasLog, logged, end_by, end_of}
-use Rattle.rv_model.specs.Walk.{Walk, notes_of, IsWalk}
-use Rattle.rv_model.specs.CallsFit.{is_exit, CallsFit}
+use Rattle.rv_model.specs.Run.{Runs, final, events, event_of, record_in, records_of, HasLog, logged, end_by}
+use Rattle.rv_model.specs.Walk.{notes_of}
+use Rattle.rv_model.specs.CallsFit.{is_exit}
 use Rattle.rv_model.specs.RecordedOrder.{Counted, RecordedOrder}
 use Rattle.guided_walk.specs.Told.{told, last_fault, place_of}
 use Rattle.guided_walk.specs.Orders.{In, Keeps, Distinct, Stands}
 use Rattle.guided_walk.specs.Schedules.{places_after, places, times}
 use Rattle.guided_walk.specs.Ordered.{IsExit, ExitLast}
-use Rattle.guided_walk.specs.Woven.{faulting, Woven}
+use Rattle.guided_walk.specs.Woven.{faulting}
 use Rattle.guided_walk.proofs.Along.{Next}
 use Rattle.guided_walk.proofs.LoggedRun.{Total}
 use Rattle.guided_walk.proofs.Placing.{in_left, distinct_places, place_in, times-append, done_after, places-append}
 use Rattle.guided_walk.proofs.Records.{Among}
 use Rattle.guided_walk.proofs.ScheduleLaw.{notes_are}
-use Rattle.walk_orders.specs.Total.{IsTotal, Decides, ArePairs}
-use Rattle.walk_orders.specs.Law.{AreCounted, WovenDecides, LoggedIsWoven}
-use Rattle.walk_orders.proofs.Lists.{stands_left, stands_then, stands_once, stands_or, stands_second, keeps_standing, keeps_stands}
+use Rattle.walk_orders.specs.Total.{Decides}
+use Rattle.walk_orders.specs.Law.{WovenDecides, LoggedIsWoven}
+use Rattle.walk_orders.proofs.Lists.{stands_left, stands_then, stands_once, stands_or, keeps_standing, keeps_stands}
 use Rattle.walk_orders.proofs.Exits.{ExitsBy, exit_by, exit_halts, exit_keeps}
-use Rattle.walk_orders.proofs.Weaving.{from_counted, to_counted, no_ring}
-use Rattle.walk_orders.proofs.Runs.{Ran, opening_ran, StepOf, Stops, Moves, step_of, halted_rest, place_at, run_places, record_place, record_in_by, record_placed, faulted_called, calls_run, end_run, fell, not_fell, has_total, run_keeps, run_stands}
+use Rattle.walk_orders.proofs.Weaving.{no_ring}
+use Rattle.walk_orders.proofs.Runs.{Ran, opening_ran, StepOf, Stops, Moves, step_of, halted_rest, place_at, run_places, record_place, record_in_by, record_placed, calls_run, end_run, fell, not_fell, has_total, run_keeps}
 
 -- ---- a woven schedule
 

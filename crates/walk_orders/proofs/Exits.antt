@@ -1,5 +1,5 @@
 -- An exit is the last call of a log and the last step of its thread, and a log with one ends in no fault.
-use Rattle.std.specs.Prelude.{◌≡◌, ℕ, zero, suc, ◌+◌, ◌<◌, ◌≤◌, ◌⊎◌, Bool, true, false, not, ◌&&◌, cond, List, [], ◌∷◌, ◌++◌, length, nat_eq, nat_le, slice_get, Option, Some, None, is_some, Contains, AllPairs, refl}
+use Rattle.std.specs.Prelude.{◌≡◌, ℕ, zero, suc, ◌<◌, ◌≤◌, Bool, true, false, List, [], ◌∷◌, length, nat_eq, nat_le, slice_get, Option, Some, is_some, Contains, refl}
 use Rattle.std.specs.List.{list_all}
 use Rattle.std.proofs.Common.{sym, ◌∙◌, ap, subst, arith, inl, inr, get_or, eqb-true}
 use Rattle.std.proofs.lemmas.Bool.{cases_lt, and_parts, leb-true, false≢true}
@@ -15,10 +15,9 @@ use Rattle.odr_log.specs.declared.log.Log.{Log}
 use Rattle.odr_log.specs.declared.log.Pos.{Pos}
 use Rattle.rv_model.specs.declared.state.Halt.{Halt}
 use Rattle.rv_model.specs.declared.state.Halt.TheVariants as halt
-use Rattle.rv_model.specs.declared.state.Note.{Note}
 use Rattle.rv_model.specs.declared.state.Note.TheVariants as note
 use Rattle.rv_model.specs.Step.{halt_then}
-use Rattle.rv_model.specs.Run.{option_test, end_by, logged}
+use Rattle.rv_model.specs.Run.{option_test}
 use Rattle.rv_model.specs.Walk.{Walk, notes_of, is_last, IsWalk}
 use Rattle.rv_model.specs.CallsFit.{is_exit, final_calls, final_halt, EndFits, CallsFit}
 use Rattle.rv_model.specs.RecordedOrder.{Counted}
@@ -188,7 +187,7 @@ pub exit_keeps : (log : Log) (steps : List Pos) → Distinct steps → Keeps (λ
 exit_keeps log [] distinct keeps = tt
 exit_keeps log (p ∷ later) distinct keeps = (
   exits_last log p later (λ (q : Pos) (i : In q later) (exit : IsExit log p).
-  keeps.0 q i (exit, λ (e : q ≡ p). distinct.0 (subst (λ (x : Pos). In x later) e i))),
+      keeps.0 q i (exit, λ (e : q ≡ p). distinct.0 (subst (λ (x : Pos). In x later) e i))),
   exit_keeps log later distinct.1 keeps.1,
 )
 

@@ -1,5 +1,5 @@
 -- Chosen steps merged into the calls of a log: before each chosen step stand the calls that are recorded before it.
-use Rattle.std.specs.Prelude.{◌≡◌, ℕ, ◌<◌, ◌≤◌, ◌⊎◌, Bool, true, false, ◌&&◌, ◌||◌, cond, List, [], ◌∷◌, ◌++◌, map, nat_eq, nat_le, slice_get, Some, Contains, if◌then◌else◌, refl}
+use Rattle.std.specs.Prelude.{◌≡◌, ℕ, ◌≤◌, ◌⊎◌, Bool, true, false, ◌||◌, cond, List, [], ◌∷◌, ◌++◌, map, nat_eq, nat_le, Some, if◌then◌else◌, refl}
 use Rattle.std.proofs.Common.{sym, ◌∙◌, ap, subst, arith, inl, inr, eqb-true}
 use Rattle.std.proofs.lemmas.Bool.{cases_lt, and_parts, leb-true, false≢true}
 use Rattle.odr_log.specs.declared.log.Call.{Call}
@@ -17,8 +17,7 @@ use Rattle.guided_walk.proofs.Facts.{made_by_call}
 use Rattle.guided_walk.proofs.NeedsOrder.{among_contains}
 use Rattle.guided_walk.proofs.Placing.{in-append}
 use Rattle.walk_orders.specs.RecordedTest.{up_to, leads, passes}
-use Rattle.walk_orders.specs.Law.{AreCounted}
-use Rattle.walk_orders.proofs.Lists.{in_right}
+use Rattle.walk_orders.specs.Total.{AreCounted}
 use Rattle.walk_orders.proofs.Weave.{First}
 
 -- ---- the recorded order
@@ -293,12 +292,11 @@ merge_call log ring (a ∷ chosen) rs x q chain are among counted has order led 
           let r : (r : CallRec) × Among r take × (place_of r ≡ z) = in_places z take i in
           subst (λ (y : Pos). up_to y q ≡ false) r.2
           (not_up_to log (place_of r.0) q (are r.0 (taken (leads a) rs r.0 r.1)).counted counted
-          (λ (up : UpTo log q (place_of r.0)). no_cycle log ring q (place_of r.0) (place_of x) up (inr (taken_first log (leads a) rs r.0 x chain r.1 d)) order)))
-          (
+          (λ (up : UpTo log q (place_of r.0)). no_cycle log ring q (place_of r.0) (place_of x) up (inr (taken_first log (leads a) rs r.0 x chain r.1 d)) order))) (
             not_here (up_to a q) refl d,
             inr (merge_call log ring chosen drop x q (chain_drop log (leads a) rs chain) (λ (s : CallRec) (h : Among s drop). are s (left (leads a) rs s h))
-              (λ (p : Pos) (i : In p chosen). among p (inr i)) counted d order
-              (λ (b : Pos) (i : In b chosen) (e : up_to b q ≡ true). led_left log ring (leads a) rs x b chain d (led b (inr i) e))),
+                (λ (p : Pos) (i : In p chosen). among p (inr i)) counted d order
+                (λ (b : Pos) (i : In b chosen) (e : up_to b q ≡ true). led_left log ring (leads a) rs x b chain d (led b (inr i) e))),
           )
     ] where
       not_here : (b : Bool) → up_to a q ≡ b → Among x (drop_to (leads a) rs) → b ≡ false
@@ -321,8 +319,7 @@ merge_chosen log R (x ∷ chosen) rs a b chain are among counted keeps i once af
     let up : UpTo log (place_of r.0) x =
     up_to_then log (place_of r.0) (place_of on.last) x on.up_to (leads_up_to log x on.last (among x (inl refl)) (are on.last on.among) on.passes) in
     subst (λ (y : Pos). up_to y b ≡ false) r.2
-    (not_up_to log (place_of r.0) b (are r.0 (taken (leads x) rs r.0 r.1)).counted counted (λ (h : UpTo log b (place_of r.0)). never i (up_to_then log b (place_of r.0) x h up))))
-    (
+    (not_up_to log (place_of r.0) b (are r.0 (taken (leads x) rs r.0 r.1)).counted counted (λ (h : UpTo log b (place_of r.0)). never i (up_to_then log b (place_of r.0) x h up)))) (
       not_up_to log x b (among x (inl refl)) counted (never i),
       elim i [
         | inl e ↦ inl e

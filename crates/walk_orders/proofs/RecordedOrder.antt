@@ -1,9 +1,9 @@
 -- The recorded order is ordered.
-use Rattle.std.specs.Prelude.{◌≡◌, ℕ, zero, suc, ◌<◌, ◌≤◌, Bool, true, ◌&&◌, List, [], ◌∷◌, length, drop, nat_eq, slice_get, Option, Some, None, Contains, refl}
+use Rattle.std.specs.Prelude.{◌≡◌, ℕ, zero, suc, ◌<◌, ◌≤◌, true, List, [], ◌∷◌, length, drop, nat_eq, slice_get, Option, Some, None, Contains, refl}
 use Rattle.std.specs.List.{find}
 use Rattle.std.proofs.Common.{sym, ◌∙◌, ap, subst, arith, eqb-true, eq-eqb}
 use Rattle.std.proofs.lemmas.Bool.{and_parts, and_from}
-use Rattle.std.proofs.lemmas.Option.{none-some, same_Some, slice_get_read}
+use Rattle.std.proofs.lemmas.Option.{none-some, slice_get_read}
 use Rattle.elf_image.specs.Layout.{Layout}
 use Rattle.odr_log.specs.declared.log.Call.{Call}
 use Rattle.odr_log.specs.declared.log.Call.TheVariants as call
@@ -17,9 +17,9 @@ use Rattle.rv_model.specs.Walk.{Walk, IsWalk}
 use Rattle.rv_model.specs.CallsFit.{CallsFit}
 use Rattle.rv_model.specs.RecordedOrder.{Closure, One, More, Counted, InThread, ByCalls, BySpawn, RecordedOrder}
 use Rattle.guided_walk.specs.Told.{told, place_of, noted}
-use Rattle.guided_walk.specs.Orders.{In, Keeps, Distinct, Lists}
+use Rattle.guided_walk.specs.Orders.{Keeps, Distinct, Lists}
 use Rattle.guided_walk.specs.Flow.{FlowEdge, InThread as FlowThread, BySpawn as FlowSpawn, ByJoin, CountedFlow, Flow}
-use Rattle.guided_walk.specs.Ordered.{ExitLast, is_at, calls_along, told_along, Ordered}
+use Rattle.guided_walk.specs.Ordered.{ExitLast, is_at, calls_along, told_along}
 use Rattle.guided_walk.proofs.Table.{Apart, apart_push, apart_none, same_pos}
 use Rattle.guided_walk.proofs.Walks.{called}
 use Rattle.guided_walk.proofs.Records.{Among, among_at, found_among, among_found, rec, one_record}

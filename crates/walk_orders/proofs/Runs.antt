@@ -1,8 +1,8 @@
 -- Along a run each thread takes its steps one after the other, records stand in order, and a spawn before each step of the
 -- thread that it makes.
-use Rattle.std.specs.Prelude.{◌≡◌, ◌≢◌, ℕ, zero, suc, ◌+◌, ◌-◌, ◌<◌, ◌≤◌, ◌⊎◌, Bool, true, false, cond, List, [], ◌∷◌, ◌++◌, length, map, nat_eq, slice_get, Option, Some, None, is_some, is_none, Contains, refl}
+use Rattle.std.specs.Prelude.{◌≡◌, ℕ, zero, suc, ◌+◌, ◌-◌, ◌<◌, ◌≤◌, ◌⊎◌, Bool, true, false, cond, List, [], ◌∷◌, length, map, nat_eq, slice_get, Option, Some, None, is_some, is_none, refl}
 use Rattle.std.specs.List.{list_all}
-use Rattle.std.proofs.Common.{sym, ◌∙◌, ap, subst, arith, inl, inr, get_or, ltb, eqb, eq-eqb}
+use Rattle.std.proofs.Common.{sym, ◌∙◌, ap, subst, arith, inl, inr, ltb, eqb, eq-eqb}
 use Rattle.std.proofs.lemmas.Bool.{eqb-true, ltb-true, ltb-false, false≢true}
 use Rattle.std.proofs.lemmas.List.{get_or_past, length-append}
 use Rattle.std.proofs.lemmas.Option.{none-some, same_Some}
@@ -13,7 +13,6 @@ use Rattle.odr_log.specs.declared.log.Call.{Call}
 use Rattle.odr_log.specs.declared.log.Call.TheVariants as call
 use Rattle.odr_log.specs.declared.log.CallRec.{CallRec}
 use Rattle.odr_log.specs.declared.log.End.{End}
-use Rattle.odr_log.specs.declared.log.End.TheVariants as end
 use Rattle.odr_log.specs.declared.log.Log.{Log}
 use Rattle.odr_log.specs.declared.log.Pos.{Pos}
 use Rattle.odr_log.specs.declared.log.ThreadLog.{ThreadLog}
@@ -30,23 +29,23 @@ use Rattle.rv_model.specs.declared.state.State.{State}
 use Rattle.rv_model.specs.declared.state.Stepped.{Stepped}
 use Rattle.rv_model.specs.declared.hearing.Outcome.{Outcome}
 use Rattle.rv_model.specs.declared.hearing.Outcome.TheVariants.{Faults, Goes}
-use Rattle.rv_model.specs.Thread.{no_thread, losing}
+use Rattle.rv_model.specs.Thread.{no_thread}
 use Rattle.rv_model.specs.Calls.{made}
-use Rattle.rv_model.specs.Step.{opening, memory_of, instr_at, thread_at, child_of, halt_then, applied, gone, after_effect, step, is_enabled}
+use Rattle.rv_model.specs.Step.{opening, memory_of, thread_at, child_of, halt_then, applied, gone, after_effect, step, is_enabled}
 use Rattle.rv_model.specs.Run.{Runs, final, events, event_of, record_in, records_of, cons_some, thread_logs, log_of, HasLog, logged, nothing_logged, end_by, end_of}
 use Rattle.rv_model.specs.Walk.{Walk, notes_of, IsWalk}
-use Rattle.rv_model.specs.RecordedOrder.{Closure, Counted, Edge, InThread, ByCalls, BySpawn, CountedEdge, RecordedOrder}
+use Rattle.rv_model.specs.RecordedOrder.{Counted, Edge, InThread, ByCalls, BySpawn, CountedEdge, RecordedOrder}
 use Rattle.rv_model.proofs.Progress.{own_then, other_then}
 use Rattle.rv_model.proofs.Bounds.{beyond, child_zero}
 use Rattle.rv_model.proofs.Difference.{enabled_within, enabled_goes}
 use Rattle.rv_model.proofs.LogParts.{length-thread_logs, thread_logs-at}
-use Rattle.guided_walk.specs.Told.{Told, told, last_fault, place_of}
+use Rattle.guided_walk.specs.Told.{told, last_fault, place_of}
 use Rattle.guided_walk.specs.Orders.{In, Keeps, Stands}
 use Rattle.guided_walk.specs.Schedules.{count, next_of, places_after, places, times}
 use Rattle.guided_walk.proofs.Along.{After, Next, outcome_by, reserving_by, step_is, MakesNext, MakesOne, MakesNone, many_then, more_then}
 use Rattle.guided_walk.proofs.LoggedRun.{Total, makes_by}
 use Rattle.guided_walk.proofs.Placing.{distinct_places, place_in}
-use Rattle.guided_walk.proofs.Records.{Among, among_at, at_among, rec}
+use Rattle.guided_walk.proofs.Records.{Among, among_at, rec}
 use Rattle.guided_walk.proofs.ScheduleLaw.{notes_are}
 use Rattle.walk_orders.proofs.Lists.{keeps_standing}
 use Rattle.walk_orders.proofs.Steps.{places_rise}
@@ -76,7 +75,7 @@ retired_by core t u reservation local writes shown there true w true s =
 retired_by core t u reservation local writes shown there true w false s =
     ap (λ (x : Thread). x.retired)
     (other_then t u writes core.threads (child_of (thread_at core t).local shown) (After core t reservation local) (ltb-true u (length core.threads) w)
-      (λ (e : u ≡ t). false≢true (sym s ∙ eq-eqb t u (sym e))))
+    (λ (e : u ≡ t). false≢true (sym s ∙ eq-eqb t u (sym e))))
 retired_by core t u reservation local writes shown there false w true s =
     absurd (omega (arith, there, eqb-true t u s, ltb-false u (length core.threads) w))
 retired_by core t u reservation local writes shown there false w false s =

@@ -1,6 +1,5 @@
 -- Lists of all counted steps that have each thread's steps in order.
-use Rattle.std.specs.Prelude.{◌≡◌, ℕ, zero, suc, ◌+◌, ◌<◌, ◌≤◌, ◌⊎◌, Bool, true, false, cond, List, [], ◌∷◌, ◌++◌, map, nat_eq, refl}
-use Rattle.std.specs.List.{filter}
+use Rattle.std.specs.Prelude.{◌≡◌, ℕ, zero, suc, ◌+◌, ◌<◌, ◌≤◌, Bool, cond, List, [], ◌∷◌, ◌++◌, nat_eq, refl}
 use Rattle.std.proofs.Common.{sym, ◌∙◌, ap, subst, arith, inl, inr, get_or, eq-eqb}
 use Rattle.std.proofs.lemmas.Bool.{ne_eqb}
 use Rattle.std.proofs.lemmas.List.{append-nil}
@@ -10,11 +9,10 @@ use Rattle.odr_log.specs.declared.log.Pos.{Pos}
 use Rattle.odr_log.specs.declared.log.ThreadLog.{ThreadLog}
 use Rattle.rv_model.specs.Run.{logged, nothing_logged}
 use Rattle.rv_model.specs.RecordedOrder.{Counted}
-use Rattle.guided_walk.specs.Orders.{In, Distinct, Lists, Stands}
-use Rattle.guided_walk.specs.Schedules.{count, next_of, places_after, places, times}
+use Rattle.guided_walk.specs.Orders.{In, Lists, Stands}
+use Rattle.guided_walk.specs.Schedules.{count, places_after, places, times}
 use Rattle.guided_walk.proofs.Along.{Next, count_own}
-use Rattle.guided_walk.proofs.Placing.{place_from, place_below, place_in, distinct_places, in-append}
-use Rattle.walk_orders.proofs.Lists.{in_filter, filter_in}
+use Rattle.guided_walk.proofs.Placing.{place_from, place_below, place_in, distinct_places}
 use Rattle.walk_orders.proofs.Weave.{rising, own, threads_of, placed_as, times_rising}
 
 -- ---- steps of one thread

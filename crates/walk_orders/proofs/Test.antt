@@ -1,7 +1,7 @@
 -- The recorded order as a test: of two threads, a call at or after the first step and a later one, or the same, that leads
 -- to the second.
-use Rattle.std.specs.Prelude.{◌≡◌, ◌↔◌, ℕ, zero, suc, ◌+◌, ◌<◌, ◌≤◌, ◌⊎◌, Bool, true, false, ◌&&◌, ◌||◌, cond, List, [], ◌∷◌, nat_eq, nat_lt, nat_le, slice_get, Some, Contains, refl}
-use Rattle.std.proofs.Common.{sym, ◌∙◌, ap, subst, arith, inl, inr, eqb, eqb-true, eq-eqb}
+use Rattle.std.specs.Prelude.{◌≡◌, ℕ, zero, suc, ◌<◌, ◌≤◌, ◌⊎◌, Bool, true, false, ◌&&◌, ◌||◌, cond, List, [], ◌∷◌, nat_eq, nat_lt, nat_le, slice_get, Some, refl}
+use Rattle.std.proofs.Common.{sym, ◌∙◌, ap, arith, inl, inr, eqb, eqb-true, eq-eqb}
 use Rattle.std.proofs.lemmas.Bool.{cases_lt, and_parts, and_from, leb-true, le-leb, ltb-true, lt-ltb, false≢true}
 use Rattle.std.proofs.lemmas.Option.{none-some, same_Some}
 use Rattle.elf_image.specs.Layout.{Layout}
@@ -239,7 +239,7 @@ test_from log fit p q order false e = elim (is_before log fit order) [
 ]
 
 pub recorded_test : RecordedTest
-recorded_test image log walk is fit p q = (
+recorded_test image log walk p q is fit = (
   λ (e : recorded_before log p q ≡ true).
       let one : (is_counted_step log p ≡ true) × ((is_counted_step log q && test_by log p q (nat_eq p.thread q.thread)) ≡ true) = and_parts _ _ e in
       let two : (is_counted_step log q ≡ true) × (test_by log p q (nat_eq p.thread q.thread) ≡ true) = and_parts _ _ one.1 in
@@ -266,5 +266,5 @@ ordered_as image log R S on back ordered = record {
 
 pub test_ordered : TestIsOrdered
 test_ordered image log walk is fit =
-    ordered_as image log (RecordedOrder log) (holds (recorded_before log)) (λ (p q : Pos). (recorded_test image log walk is fit p q).1) (λ (p q : Pos). (recorded_test image log walk is fit p q).0)
+    ordered_as image log (RecordedOrder log) (holds (recorded_before log)) (λ (p q : Pos). (recorded_test image log walk p q is fit).1) (λ (p q : Pos). (recorded_test image log walk p q is fit).0)
     (recorded_law image log walk is fit)

@@ -1,5 +1,5 @@
 -- Weaving: before each chosen step, what stands before it in its thread and was not taken yet.
-use Rattle.std.specs.Prelude.{◌≡◌, ℕ, zero, suc, ◌+◌, ◌<◌, ◌≤◌, ◌⊎◌, Bool, true, false, not, ◌&&◌, cond, List, [], ◌∷◌, ◌++◌, length, map, nat_eq, nat_le, refl}
+use Rattle.std.specs.Prelude.{◌≡◌, ℕ, zero, suc, ◌+◌, ◌≤◌, ◌⊎◌, Bool, true, false, not, cond, List, [], ◌∷◌, ◌++◌, length, map, nat_eq, nat_le, refl}
 use Rattle.std.specs.List.{filter}
 use Rattle.std.proofs.Common.{sym, ◌∙◌, ap, subst, arith, inl, inr, eqb, eq-eqb}
 use Rattle.std.proofs.lemmas.Bool.{and_parts, and_from, eqb-true, leb-true, le-leb, false≢true}
@@ -8,9 +8,9 @@ use Rattle.odr_log.specs.declared.log.Pos.{Pos}
 use Rattle.guided_walk.specs.Orders.{In, Stands}
 use Rattle.guided_walk.specs.Schedules.{count, next_of, places_after, times}
 use Rattle.guided_walk.proofs.Along.{Next, count_own, count_other}
-use Rattle.guided_walk.proofs.Placing.{in-append, in_left}
+use Rattle.guided_walk.proofs.Placing.{in_left}
 use Rattle.walk_orders.specs.RecordedTest.{up_to}
-use Rattle.walk_orders.proofs.Lists.{in_right, in_filter, filter_in, stands_left, stands_right, stands_across}
+use Rattle.walk_orders.proofs.Lists.{in_right, filter_in, stands_right, stands_across}
 
 abbrev pub beyond : Pos → Pos → Bool
 beyond z q = not (up_to z q)
@@ -96,7 +96,7 @@ none_up_to z thread step (suc n) past =
     none_up_to z thread (step + 1) n (later_beyond z thread step past (up_to z (record { thread = thread; step = step + 1 })) refl) in (
       ap (λ (b : Bool). cond b (p ∷ filter (up_to z) (rising thread (step + 1) n)) (filter (up_to z) (rising thread (step + 1) n))) past ∙ rest.0,
       ap (λ (b : Bool). cond (not b) (p ∷ filter (beyond z) (rising thread (step + 1) n)) (filter (beyond z) (rising thread (step + 1) n))) past
-      ∙ ap (λ (xs : List Pos). p ∷ xs) rest.1,
+          ∙ ap (λ (xs : List Pos). p ∷ xs) rest.1,
     )
 
 splits_by : (z : Pos) (thread step n : ℕ) → (b : Bool) → up_to z (record { thread = thread; step = step }) ≡ b → Splits z thread (step + 1) n → Splits z thread step (suc n)

@@ -1,10 +1,9 @@
 -- Every total order of chosen steps that agrees with the recorded order comes from one list of all counted steps.
-use Rattle.std.specs.Prelude.{◌≡◌, ℕ, zero, suc, ◌+◌, ◌<◌, ◌≤◌, ◌⊎◌, Bool, true, false, not, ◌&&◌, ◌||◌, cond, List, [], ◌∷◌, ◌++◌, length, map, nat_eq, nat_le, slice_get, Some, Contains, refl}
+use Rattle.std.specs.Prelude.{◌≡◌, ℕ, suc, ◌+◌, ◌<◌, Bool, true, false, not, ◌||◌, cond, List, [], ◌∷◌, ◌++◌, nat_eq, slice_get, Some, Contains, refl}
 use Rattle.std.specs.List.{filter}
-use Rattle.std.proofs.Common.{sym, ◌∙◌, ap, subst, arith, inl, inr, eqb-true, eq-eqb}
+use Rattle.std.proofs.Common.{sym, ◌∙◌, ap, subst, arith, inl, inr}
 use Rattle.std.proofs.lemmas.Bool.{and_parts, false≢true}
 use Rattle.std.proofs.lemmas.List.{append-nil}
-use Rattle.std.proofs.lemmas.Option.{slice_get_read}
 use Rattle.elf_image.specs.Layout.{Layout}
 use Rattle.odr_log.specs.declared.log.Call.TheVariants as call
 use Rattle.odr_log.specs.declared.log.CallRec.{CallRec}
@@ -18,12 +17,12 @@ use Rattle.rv_model.specs.Walk.{Walk, makes, IsWalk}
 use Rattle.rv_model.specs.CallsFit.{is_exit, CallsFit}
 use Rattle.rv_model.specs.RecordedOrder.{Closure, One, More, Counted, IsStepOf, Edge, InThread, ByCalls, BySpawn, CountedEdge, RecordedOrder}
 use Rattle.happens_before.proofs.ClosedForm.{before_in_thread}
-use Rattle.guided_walk.specs.Told.{told, place_of, noted}
+use Rattle.guided_walk.specs.Told.{place_of}
 use Rattle.guided_walk.specs.Orders.{In, Keeps, Distinct, Lists, Stands}
-use Rattle.guided_walk.specs.Schedules.{count, next_of, places_after, places, times}
+use Rattle.guided_walk.specs.Schedules.{count, places_after, places, times}
 use Rattle.guided_walk.specs.Ordered.{IsExit, ExitLast}
 use Rattle.guided_walk.specs.Along.{fault_by, fault_places}
-use Rattle.guided_walk.specs.Woven.{faulting, Woven}
+use Rattle.guided_walk.specs.Woven.{faulting}
 use Rattle.guided_walk.specs.Law.{holds}
 use Rattle.guided_walk.proofs.Along.{Next}
 use Rattle.guided_walk.proofs.Walks.{called}
@@ -31,12 +30,12 @@ use Rattle.guided_walk.proofs.Records.{Among, among_at, at_among, among_filter, 
 use Rattle.guided_walk.proofs.Facts.{called_noted}
 use Rattle.guided_walk.proofs.CallOrder.{record_counted, calls_ordered}
 use Rattle.guided_walk.proofs.Placing.{in-append, distinct_places, done_after, places-append}
-use Rattle.walk_orders.specs.Total.{IsTotal, ArePairs, ComesFrom}
+use Rattle.walk_orders.specs.Total.{AreCounted, IsTotal, ArePairs}
 use Rattle.walk_orders.specs.RecordedTest.{up_to}
-use Rattle.walk_orders.specs.Law.{AreCounted, WeavingLaw}
+use Rattle.walk_orders.specs.Law.{WeavingLaw}
 use Rattle.walk_orders.proofs.Lists.{in_right, in_filter, filter_in, stands_left, stands_then, stands_once, keeps_standing}
-use Rattle.walk_orders.proofs.Weave.{weave, First, in_weave, weave_first, own_weave, threads_of}
-use Rattle.walk_orders.proofs.Merge.{UpTo, NoRing, IsCall, Chain, AreCalls, LedTo, first_left, first_of_all, in_merge, merge, merge_call, merge_chosen}
+use Rattle.walk_orders.proofs.Weave.{weave, First, weave_first, own_weave, threads_of}
+use Rattle.walk_orders.proofs.Merge.{UpTo, NoRing, Chain, AreCalls, LedTo, first_left, first_of_all, in_merge, merge, merge_call, merge_chosen}
 use Rattle.walk_orders.proofs.Steps.{all_steps, AreSteps, all_are, steps_places, steps_times, steps_list, steps_rise}
 use Rattle.walk_orders.proofs.Exits.{contains_among, earlier_goes, exits, ExitsBy, exits_by, exit_by, exits_true, is_exit_by, same_exit, exit_ends_thread, no_exit_at_fault, exit_keeps, no_exits_last}
 use Rattle.walk_orders.proofs.Sorting.{sorted_by, in_sorted, sorted_in, sorted_keeps}
@@ -338,7 +337,7 @@ weaving_law image log walk chosen before is fit counted goes_on total =
         recorded = subst (Keeps (RecordedOrder log)) (sym placed) recorded;
         paired = λ (p q : Pos) (has : Contains pairs (p, q)).
             (let pair : In p chosen × In q chosen × (before p q ≡ true) = within p q has in
-                subst (λ (xs : List Pos). Stands xs p q) (sym placed) (stand p q pair.0 pair.1 pair.2));
+            subst (λ (xs : List Pos). Stands xs p q) (sym placed) (stand p q pair.0 pair.1 pair.2));
         exit_last = subst (ExitLast log) (sym whole) (exit_last_by log steps log.end fit refl exit_last);
       };
     }

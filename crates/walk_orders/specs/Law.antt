@@ -13,38 +13,42 @@ use Rattle.guided_walk.specs.Ordered.{IsExit, Ordered}
 use Rattle.guided_walk.specs.Law.{holds}
 use Rattle.guided_walk.specs.Woven.{Woven}
 use Rattle.walk_orders.specs.RecordedTest.{recorded_before}
-use Rattle.walk_orders.specs.Total.{IsTotal, Decides, ArePairs, ComesFrom}
-
-abbrev pub AreCounted : Log → List Pos → Type 0
-AreCounted log steps = (p : Pos) → In p steps → Counted log p
+use Rattle.walk_orders.specs.Total.{AreCounted, IsTotal, Decides, ArePairs, ComesFrom}
 
 -- Where the walk is defined and the calls fit, the recorded order is ordered.
 abbrev pub RecordedIsOrdered : Type 0
-RecordedIsOrdered = (image : Layout) (log : Log) (walk : Walk) → IsWalk image log walk → CallsFit log → Ordered image log (RecordedOrder log)
+RecordedIsOrdered = (image : Layout) (log : Log) (walk : Walk) → IsWalk image log walk → CallsFit log
+    → Ordered image log (RecordedOrder log)
 
--- There the test that only looks at the calls is the recorded order, and so it is ordered too.
+-- There a test that only looks at the calls and the counts of steps is the recorded order.
 abbrev pub RecordedTest : Type 0
-RecordedTest = (image : Layout) (log : Log) (walk : Walk) → IsWalk image log walk → CallsFit log → (p q : Pos) → holds (recorded_before log) p q ↔ RecordedOrder log p q
+RecordedTest = (image : Layout) (log : Log) (walk : Walk) (p q : Pos) → IsWalk image log walk → CallsFit log
+    → holds (recorded_before log) p q ↔ RecordedOrder log p q
 
+-- So the test is ordered too.
 abbrev pub TestIsOrdered : Type 0
-TestIsOrdered = (image : Layout) (log : Log) (walk : Walk) → IsWalk image log walk → CallsFit log → Ordered image log (holds (recorded_before log))
+TestIsOrdered = (image : Layout) (log : Log) (walk : Walk) → IsWalk image log walk → CallsFit log
+    → Ordered image log (holds (recorded_before log))
 
--- Where the walk is defined and the calls fit, every total order of chosen counted steps without an exit, as accesses are,
--- that agrees with the recorded order comes from one list of all counted steps.
+-- Where the walk is defined and the calls fit, every total order of chosen counted steps without an exit, such as
+-- accesses, that agrees with the recorded order comes from one list of all counted steps.
 abbrev pub WeavingLaw : Type 0
-WeavingLaw = (image : Layout) (log : Log) (walk : Walk) (chosen : List Pos) (before : Pos → Pos → Bool) → IsWalk image log walk → CallsFit log
-    → AreCounted log chosen → ((p : Pos) → In p chosen → IsExit log p → ⊥) → IsTotal log chosen (holds before) → ComesFrom log chosen (holds before)
+WeavingLaw = (image : Layout) (log : Log) (walk : Walk) (chosen : List Pos) (before : Pos → Pos → Bool)
+    → IsWalk image log walk → CallsFit log → AreCounted log chosen → ((p : Pos) → In p chosen → IsExit log p → ⊥)
+    → IsTotal log chosen (holds before) → ComesFrom log chosen (holds before)
 
 -- An access is a counted step and no exit.
 abbrev pub AccessesGoOn : Type 0
-AccessesGoOn = (image : Layout) (log : Log) (walk : Walk) (p : Pos) → IsWalk image log walk → In p (accesses_of walk) → Counted log p × (IsExit log p → ⊥)
+AccessesGoOn = (image : Layout) (log : Log) (walk : Walk) (p : Pos) → IsWalk image log walk → In p (accesses_of walk)
+    → Counted log p × (IsExit log p → ⊥)
 
 -- What a woven schedule decides of counted steps is a total order that agrees with the recorded order.
 abbrev pub WovenDecides : Type 0
-WovenDecides = (log : Log) (pairs : List (Pos × Pos)) (schedule : List ℕ) (chosen : List Pos) → CallsFit log → Woven log pairs schedule
-    → AreCounted log chosen → IsTotal log chosen (Decides schedule)
+WovenDecides = (log : Log) (pairs : List (Pos × Pos)) (schedule : List ℕ) (chosen : List Pos) → CallsFit log
+    → Woven log pairs schedule → AreCounted log chosen → IsTotal log chosen (Decides schedule)
 
 -- A schedule that has the log is woven for each list of pairs of counted steps that it decides so.
 abbrev pub LoggedIsWoven : Type 0
-LoggedIsWoven = (image : Layout) (log : Log) (walk : Walk) (schedule : List ℕ) (chosen : List Pos) (pairs : List (Pos × Pos)) → IsWalk image log walk → CallsFit log
-    → HasLog image log schedule → AreCounted log chosen → ArePairs chosen (Decides schedule) pairs → Woven log pairs schedule
+LoggedIsWoven = (image : Layout) (log : Log) (walk : Walk) (schedule : List ℕ) (chosen : List Pos)
+    (pairs : List (Pos × Pos)) → IsWalk image log walk → CallsFit log → HasLog image log schedule
+    → AreCounted log chosen → ArePairs chosen (Decides schedule) pairs → Woven log pairs schedule

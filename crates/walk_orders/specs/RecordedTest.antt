@@ -1,5 +1,5 @@
 -- The recorded order as a test that only looks at the calls.
-use Rattle.std.specs.Prelude.{ℕ, Bool, true, false, ◌&&◌, ◌||◌, List, [], ◌∷◌, nat_eq, nat_lt, nat_le, if◌then◌else◌}
+use Rattle.std.specs.Prelude.{Bool, false, ◌&&◌, ◌||◌, List, [], ◌∷◌, nat_eq, nat_lt, nat_le, if◌then◌else◌}
 use Rattle.odr_log.specs.declared.log.CallRec.{CallRec}
 use Rattle.odr_log.specs.declared.log.Log.{Log}
 use Rattle.odr_log.specs.declared.log.Pos.{Pos}
@@ -27,7 +27,10 @@ is_via p q (r ∷ records) = if up_to (place_of r) p then passes (leads q) (r �
 abbrev pub is_counted_step : Log → Pos → Bool
 is_counted_step log p = nat_lt p.step (logged log p.thread).steps
 
+-- of two counted steps
+abbrev pub counted_before : Log → Pos → Pos → Bool
+counted_before log p q = if nat_eq p.thread q.thread then nat_lt p.step q.step else is_via p q log.calls
+
 -- whether the log records that one step stands before another
 abbrev pub recorded_before : Log → Pos → Pos → Bool
-recorded_before log p q =
-    is_counted_step log p && (is_counted_step log q && (if nat_eq p.thread q.thread then nat_lt p.step q.step else is_via p q log.calls))
+recorded_before log p q = is_counted_step log p && (is_counted_step log q && counted_before log p q)

@@ -9,6 +9,9 @@ use Rattle.guided_walk.specs.Ordered.{ExitLast}
 use Rattle.guided_walk.specs.Along.{fault_places}
 use Rattle.guided_walk.specs.Woven.{Woven}
 
+abbrev pub AreCounted : Log → List Pos → Type 0
+AreCounted log steps = (p : Pos) → In p steps → Counted log p
+
 -- A strict total order of chosen steps that agrees with the recorded order.
 pub record IsTotal (log : Log) (chosen : List Pos) (before : Pos → Pos → Type 0) : Type 0 where
   pub transitive : (p q r : Pos) → In p chosen → In q chosen → In r chosen → before p q → before q r → before p r
@@ -24,9 +27,9 @@ Decides schedule = Stands (places schedule)
 abbrev pub ArePairs : List Pos → (Pos → Pos → Type 0) → List (Pos × Pos) → Type 0
 ArePairs chosen before pairs = (p q : Pos) → Contains pairs (p, q) → In p chosen × In q chosen × before p q
 
--- One list of all counted steps keeps the recorded order and has an exit last, and the chosen steps stand in it in their
--- order. As a schedule, with the fault behind it, it decides this order, and is woven for each list of pairs of chosen
--- steps that are in their order.
+-- One list of all counted steps keeps the recorded order and has an exit last, and the chosen steps stand in it in
+-- their order. As a schedule, with the fault behind, it decides this order, and it is woven for each list of pairs of
+-- chosen steps that are in their order.
 pub record ComesFrom (log : Log) (chosen : List Pos) (before : Pos → Pos → Type 0) : Type 0 where
   pub steps : List Pos
   pub lists : Lists (Counted log) steps
