@@ -1,6 +1,6 @@
 -- Threads that no spawn began.
 use Rattle.std.specs.Prelude.{◌≡◌, ℕ, zero, suc, Option, Some, None, IfNone, refl}
-use Rattle.std.proofs.Common.{sym, ◌∙◌, ap, subst}
+use Rattle.std.proofs.Common.{sym, ◌∙◌, subst}
 use Rattle.std.proofs.lemmas.Option.{same_Some}
 use Rattle.odr_log.specs.declared.log.Pos.{Pos}
 use Rattle.guided_walk.specs.Told.{Told, noted}

@@ -1,23 +1,22 @@
 -- Whether what is given fits a schedule, one step more at a time.
-use Rattle.std.specs.Prelude.{◌≡◌, ◌≢◌, ◌↔◌, ℕ, zero, suc, ◌+◌, ◌<◌, ◌≤◌, Bool, true, false, cond, List, [], ◌∷◌, ◌++◌, length, take, drop, reverse, nat_eq, Option, Some, None, IsTrue, refl}
+use Rattle.std.specs.Prelude.{◌≡◌, ◌≢◌, ◌↔◌, ℕ, suc, ◌+◌, ◌<◌, ◌≤◌, cond, List, [], ◌∷◌, ◌++◌, length, take, drop, reverse, nat_eq, Option, refl}
 use Rattle.std.proofs.Common.{sym, ◌∙◌, ap, subst, arith, inl, inr, get_or}
-use Rattle.std.proofs.lemmas.Bool.{cases_eq, false≢true}
+use Rattle.std.proofs.lemmas.Bool.{cases_eq}
 use Rattle.std.proofs.lemmas.List.{take_more, drop_more, drop_all, reverse-append}
-use Rattle.std.proofs.lemmas.Option.{none-some}
 use Rattle.elf_image.specs.declared.write.Write.{Write}
 use Rattle.elf_image.specs.Layout.{Layout}
 use Rattle.elf_image.specs.Memory.{Cells, opening_cells, cells_after, next, byte_in}
 use Rattle.odr_log.specs.declared.log.Pos.{Pos}
-use Rattle.rv_model.specs.Instruction.{reserving_at, wins}
+use Rattle.rv_model.specs.Instruction.{reserving_at}
 use Rattle.rv_model.specs.Noted.{writes_in}
 use Rattle.rv_model.specs.Thread.{surviving}
 use Rattle.rv_model.specs.declared.hearing.Outcome.{Outcome}
 use Rattle.guided_walk.specs.Guided.{Given, Seen, Visit, Visits, at, instr_of}
-use Rattle.guided_walk.specs.Schedules.{count, next_of, places, places_after}
+use Rattle.guided_walk.specs.Schedules.{count, next_of, places_after}
 use Rattle.guided_walk.specs.Fits.{byte_address, reserved, writes_along, memory_along, FitsVisit, FitsAlong, Fits}
 use Rattle.plain_walk.specs.declared.table.Visited.{Visited}
 use Rattle.plain_walk.specs.Data.{seen_of, visit_of}
-use Rattle.plain_walk.specs.Fit.{BytesFit, WonFits}
+use Rattle.plain_walk.specs.Fit.{BytesFit}
 use Rattle.plain_walk.proofs.ByteLemmas.{address_more}
 
 pub reverse_more : (steps : List Pos) (i : ℕ) (p : Pos) → i < length steps → p ≡ get_or steps i p → reverse (take (i + 1) steps) ≡ p ∷ reverse (take i steps)

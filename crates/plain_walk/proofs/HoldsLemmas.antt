@@ -1,17 +1,17 @@
 -- Along a whole list in which each step stands after what it is made of, the walk decides whether the guided walk holds.
-use Rattle.std.specs.Prelude.{◌≡◌, ◌↔◌, ℕ, zero, suc, ◌<◌, ◌⊎◌, List, [], ◌∷◌, ◌++◌, length, All, refl}
+use Rattle.std.specs.Prelude.{◌≡◌, ◌↔◌, ℕ, zero, suc, ◌<◌, List, [], ◌∷◌, ◌++◌, length, All, refl}
 use Rattle.std.proofs.Common.{sym, ◌∙◌, ap, subst, arith, inl, inr, get_or}
 use Rattle.elf_image.specs.Layout.{Layout}
 use Rattle.odr_log.specs.declared.log.Pos.{Pos}
 use Rattle.rv_model.specs.Noted.{note_in}
 use Rattle.guided_walk.specs.Told.{Told, IsPlace, noted}
-use Rattle.guided_walk.specs.Guided.{Given, Visit, Visits, at, visit, Guided}
+use Rattle.guided_walk.specs.Guided.{Given, Visit, Visits, at, Guided}
 use Rattle.guided_walk.specs.Orders.{In, Distinct}
 use Rattle.guided_walk.specs.Flow.{Needs}
 use Rattle.guided_walk.specs.Along.{walk_along}
 use Rattle.guided_walk.proofs.Table.{Settled, Solves, walk_solves, one_solution, apart_none}
 use Rattle.guided_walk.proofs.Placing.{in-append}
-use Rattle.plain_walk.specs.Order.{Follows, IsOrder}
+use Rattle.plain_walk.specs.Order.{IsOrder}
 
 -- ---- what such a list is
 

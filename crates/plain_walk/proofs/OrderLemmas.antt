@@ -1,5 +1,5 @@
 -- Members of lists, and lists in which each step stands after what it is made of, one step more at a time.
-use Rattle.std.specs.Prelude.{◌≡◌, ◌↔◌, ℕ, zero, suc, ◌+◌, ◌-◌, ◌<◌, ◌≤◌, ◌⊎◌, Bool, true, false, ◌&&◌, ◌||◌, List, [], ◌∷◌, ◌++◌, length, take, drop, nat_eq, slice_index_or, Option, Some, None, option_map, IsTrue, refl}
+use Rattle.std.specs.Prelude.{◌≡◌, ◌↔◌, ℕ, zero, suc, ◌+◌, ◌-◌, ◌<◌, ◌≤◌, ◌⊎◌, Bool, true, false, ◌&&◌, ◌||◌, List, [], ◌∷◌, ◌++◌, length, take, drop, nat_eq, slice_index_or, Option, Some, None, IsTrue, refl}
 use Rattle.std.specs.List.{list_any}
 use Rattle.std.proofs.Common.{sym, ◌∙◌, ap, subst, arith, inl, inr, get_or, eq-eqb}
 use Rattle.std.proofs.lemmas.Bool.{and_parts, and_from, eqb-true, false≢true, cases_lt, cases_eq}
@@ -7,9 +7,9 @@ use Rattle.std.proofs.lemmas.List.{take_more, drop_more, drop_all, get_or_past}
 use Rattle.std.proofs.lemmas.Option.{none-some, same_Some}
 use Rattle.odr_log.specs.declared.log.Pos.{Pos}
 use Rattle.rv_model.specs.declared.state.Note.{Note}
-use Rattle.guided_walk.specs.Told.{Told, IsPlace}
+use Rattle.guided_walk.specs.Told.{Told}
 use Rattle.guided_walk.specs.Orders.{In}
-use Rattle.guided_walk.specs.Flow.{Needs, NeedsThread, NeedsJoin}
+use Rattle.guided_walk.specs.Flow.{NeedsThread, NeedsJoin}
 use Rattle.guided_walk.proofs.Table.{same_pos}
 use Rattle.plain_walk.specs.Order.{Follows, IsOrder, HasRow}
 

@@ -1,5 +1,5 @@
 -- What a table holds at a step is its newest visit there.
-use Rattle.std.specs.Prelude.{◌≡◌, ℕ, ◌&&◌, Bool, true, false, cond, List, [], ◌∷◌, nat_eq, Option, Some, None, refl}
+use Rattle.std.specs.Prelude.{◌≡◌, Bool, true, false, cond, List, [], ◌∷◌, Option, Some, None, refl}
 use Rattle.std.specs.List.{find}
 use Rattle.std.proofs.Common.{sym, ◌∙◌, ap}
 use Rattle.odr_log.specs.declared.log.Pos.{Pos}

@@ -8,4 +8,5 @@ abbrev pub BytesFit : (ℕ → ℕ) → Cells → ℕ → ℕ → Type 0
 BytesFit bytes memory address count = (i : ℕ) → i < count → bytes i ≡ byte_in (memory (byte_address address i))
 
 abbrev pub WonFits : Option ℕ → Option ℕ → Option ℕ → Bool → Type 0
-WonFits conditional link reservation won = (address from : ℕ) → conditional ≡ Some address → link ≡ Some from → won ≡ wins (Some address) reservation
+WonFits conditional link reservation won =
+    (address from : ℕ) → conditional ≡ Some address → link ≡ Some from → won ≡ wins (Some address) reservation

@@ -18,4 +18,5 @@ IsOrder told done (p ∷ later) = Follows told done p × IsOrder told (done ++ p
 
 -- the first steps of a thread
 abbrev pub HasRow : List Pos → ℕ → ℕ → Type 0
-HasRow steps thread count = (step : ℕ) → step < count → In (let p : Pos = record { thread = thread; step = step } in p) steps
+HasRow steps thread count =
+    (step : ℕ) → step < count → In (let p : Pos = record { thread = thread; step = step } in p) steps

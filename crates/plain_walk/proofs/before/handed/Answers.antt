@@ -1,4 +1,4 @@
-use Rattle.std.proofs.Common.{◌≡◌, List, sym, ◌∙◌, ap, subst, IfNone}
+use Rattle.std.proofs.Common.{List, sym, ◌∙◌, subst, IfNone}
 use Rattle.rv_model.specs.declared.state.Note.{Note}
 use Rattle.plain_walk.specs.Data.{told_of, noted_in}
 use Rattle.plain_walk.specs.Begun.{HandsOn}

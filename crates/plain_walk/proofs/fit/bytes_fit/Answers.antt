@@ -1,4 +1,4 @@
-use Rattle.std.proofs.Common.{◌≡◌, ℕ, refl, sym, ◌∙◌, ap}
+use Rattle.std.proofs.Common.{◌≡◌, refl, sym, ◌∙◌, ap}
 use Rattle.elf_image.specs.Memory.{Cells, opening_cells, cells_after, byte_in}
 use Rattle.plain_walk.specs.Data.{byte_of}
 use Rattle.plain_walk.proofs.FitLemmas.{bytes_more}

@@ -1,6 +1,6 @@
-use Rattle.std.proofs.Common.{◌≡◌, ℕ, ◌<◌, List, length, get_or, refl, arith}
+use Rattle.std.proofs.Common.{◌≡◌, ℕ, get_or, refl, arith}
 use Rattle.std.proofs.lemmas.Bool.{false≢true}
-use Rattle.guided_walk.specs.Guided.{Given, Visit, Visits, at}
+use Rattle.guided_walk.specs.Guided.{at}
 use Rattle.plain_walk.specs.Data.{given_of, visit_of}
 use Rattle.plain_walk.specs.Tables.{visits_in}
 use Rattle.plain_walk.proofs.FitLemmas.{visit_is, far_not, far_more}

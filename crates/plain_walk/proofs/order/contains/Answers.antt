@@ -1,4 +1,4 @@
-use Rattle.std.proofs.Common.{◌≡◌, sym, ◌∙◌}
+use Rattle.std.proofs.Common.{sym, ◌∙◌}
 use Rattle.plain_walk.proofs.OrderLemmas.{in_by_any, any_by_in}
 use Rattle.plain_walk.proofs.order.contains.Goals as goal
 

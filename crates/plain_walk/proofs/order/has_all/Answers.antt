@@ -1,6 +1,6 @@
-use Rattle.std.proofs.Common.{◌≡◌, [], length, slice_index_or}
+use Rattle.std.proofs.Common.{[], length, slice_index_or}
 use Rattle.plain_walk.specs.Order.{HasRow}
-use Rattle.plain_walk.proofs.OrderLemmas.{rows_none, rows_more, rows_all}
+use Rattle.plain_walk.proofs.OrderLemmas.{rows_more}
 use Rattle.plain_walk.proofs.order.has_all.Goals as goal
 
 pub loop-thread-preserved : goal.loop-thread-preserved

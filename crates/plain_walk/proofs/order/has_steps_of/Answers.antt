@@ -1,4 +1,4 @@
-use Rattle.std.proofs.Common.{◌≡◌, ℕ, ◌<◌, [], length, slice_index_or, ap, arith}
+use Rattle.std.proofs.Common.{◌≡◌, [], length, slice_index_or, ap, arith}
 use Rattle.rv_model.specs.declared.state.Note.{Note}
 use Rattle.plain_walk.proofs.order.has_steps_of.Goals as goal
 

@@ -1,10 +1,9 @@
 use Rattle.std.proofs.Common.{◌≡◌, None, Some, List, reverse, refl, sym, ◌∙◌, ap}
 use Rattle.std.specs.List.{find}
 use Rattle.std.specs.Option.{option_copied}
-use Rattle.guided_walk.specs.Guided.{Visit, at}
+use Rattle.guided_walk.specs.Guided.{Visit}
 use Rattle.plain_walk.specs.declared.table.Visited.{Visited}
-use Rattle.plain_walk.specs.Data.{visit_of, is_place}
-use Rattle.plain_walk.specs.Tables.{visits_in}
+use Rattle.plain_walk.specs.Data.{is_place}
 use Rattle.plain_walk.proofs.TableLemmas.{holds_at}
 use Rattle.plain_walk.proofs.table.Table.at.Goals as goal
 
