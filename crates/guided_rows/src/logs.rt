@@ -20,9 +20,12 @@ use odr_log::read_log;
 use plain_machine::run::first_difference;
 use plain_walk::given::Supplied;
 use plain_walk::{fits, is_guided, walk_along};
+use rv_model::state::Note;
 use std::alloc::Global;
 use std::process::Abort;
 use std::test::Fail;
+use trace_path::Traces;
+use walk_notes::notes_of_log;
 
 /// Runs of one thread, which make up a schedule.
 type Runs = &'static [(u8, usize)];
@@ -232,6 +235,7 @@ static GUESTS: [Guest; 16] = [
 struct Loaded {
     image: Image,
     log: Log,
+    notes: List<List<Note>>,
     schedule: Vec<u8>,
     ran: Ran,
 }
@@ -243,6 +247,9 @@ fn load(rt: &impl Abort, alloc: Global, guest: &Guest) -> Result<Loaded, Fail> {
     let log = read_log(alloc, bytes.as_slice())
         .ok()
         .ok_or("the bytes are a log")?;
+    let traces = Traces::build(alloc, &image, &log)?.ok_or("a walk")?;
+    assert!(rt; log.threads.len() <= 8);
+    let notes = notes_of_log(alloc, &image, &log, &traces)?;
     let schedule = schedule_of(alloc, guest.runs)?;
     assert!(rt; schedule.len() < 1000);
     let place = first_difference(alloc, &image, &log, schedule.as_slice())?;
@@ -251,6 +258,7 @@ fn load(rt: &impl Abort, alloc: Global, guest: &Guest) -> Result<Loaded, Fail> {
     Ok(Loaded {
         image,
         log,
+        notes,
         schedule,
         ran,
     })
@@ -267,7 +275,7 @@ fn holds(
         alloc,
         &loaded.image,
         loaded.log.calls.as_slice(),
-        loaded.ran.notes.as_slice(),
+        loaded.notes.as_slice(),
         rows,
         steps,
     )?)
@@ -286,7 +294,7 @@ fn fits_schedule(
         alloc,
         &loaded.image,
         loaded.log.calls.as_slice(),
-        loaded.ran.notes.as_slice(),
+        loaded.notes.as_slice(),
         rows,
         loaded.ran.steps.as_slice(),
     )?

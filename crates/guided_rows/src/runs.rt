@@ -10,16 +10,14 @@ use plain_machine::machine as plain;
 use plain_machine::memory::reach;
 use plain_walk::given::Supplied;
 use rv_model::code::instr_at;
-use rv_model::state::{Note, State, Thread};
+use rv_model::state::{State, Thread};
 use std::alloc::{AllocError, Global};
 use std::process::Abort;
 use std::test::Fail;
 
-/// Of each of eight threads the notes of its steps, and what the steps heard from memory and reservations; and the steps
-/// in the order of the schedule.
+/// What the steps of each of eight threads heard from memory and reservations, and the steps in the order of the schedule.
 #[derive(Drop)]
 pub struct Ran {
-    pub notes: Vec<List<Note>>,
     pub rows: Vec<List<Supplied>>,
     pub steps: Vec<Pos>,
 }
@@ -80,12 +78,10 @@ pub fn run(
     schedule: &[u8],
 ) -> Result<Ran, Fail> {
     let mut ran = Ran {
-        notes: Vec::new(alloc),
         rows: Vec::new(alloc),
         steps: places(alloc, schedule)?,
     };
     for _thread in 0..8 {
-        ran.notes.push(List::new(alloc))?;
         ran.rows.push(List::new(alloc))?;
     }
     let mut state = plain::opening(alloc, image, Bytes::of(tape(alloc, log)?))?;
@@ -97,10 +93,6 @@ pub fn run(
         let row = supplied(alloc, image, &state, &before)?;
         let stepped = plain::step(alloc, image, state, *thread)?;
         ran.rows.get_mut(at).ok_or("no thread")?.push(row)?;
-        ran.notes
-            .get_mut(at)
-            .ok_or("no thread")?
-            .push(stepped.note)?;
         state = stepped.state;
     }
     Ok(ran)
