@@ -2,8 +2,8 @@
 //! them. It says what the definitions mean, and no command runs on it.
 #![tactic(auto)]
 
-mod act;
+pub mod act;
 mod calls;
 pub mod machine;
-mod memory;
+pub mod memory;
 pub mod run;

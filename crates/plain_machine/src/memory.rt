@@ -35,7 +35,7 @@ fn is_writable(cell: Option<Cell>) -> bool
     cell.is_some_and(|cell| cell.writable)
 }
 
-fn byte_in(cell: Option<Cell>) -> u8
+pub fn byte_in(cell: Option<Cell>) -> u8
     ensures { result ≡ byte_in cell }
 {
     match cell {
@@ -46,7 +46,7 @@ fn byte_in(cell: Option<Cell>) -> u8
 
 /// Whether `count` bytes from an address on may all be read.
 #[tactic(auto, using(crate::proofs::Spans::spans))]
-fn all_readable(image: &Image, writes: &Writes, address: u32, count: u32) -> bool
+pub fn all_readable(image: &Image, writes: &Writes, address: u32, count: u32) -> bool
     ensures { result ≡ all_readable (cells_after (opening_cells image.now) writes.now) address count }
 {
     let mut at = address;
@@ -61,7 +61,7 @@ fn all_readable(image: &Image, writes: &Writes, address: u32, count: u32) -> boo
 
 /// Whether `count` bytes from an address on may all be written.
 #[tactic(auto, using(crate::proofs::Spans::spans))]
-fn all_writable(image: &Image, writes: &Writes, address: u32, count: u32) -> bool
+pub fn all_writable(image: &Image, writes: &Writes, address: u32, count: u32) -> bool
     ensures { result ≡ all_writable (cells_after (opening_cells image.now) writes.now) address count }
 {
     let mut at = address;

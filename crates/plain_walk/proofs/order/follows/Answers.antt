@@ -1,0 +1,10 @@
+use Rattle.std.proofs.Common.{refl}
+use Rattle.std.proofs.lemmas.Bool.{false≢true}
+use Rattle.plain_walk.proofs.order.follows.Goals as goal
+
+pub returns : goal.returns
+returns c = λ t. record {
+  place = c.if-not-is_place.ensures refl;
+  new = λ i. false≢true (c.if-contains.ensures.1 i);
+  needs = c.has_needs.ensures t;
+}

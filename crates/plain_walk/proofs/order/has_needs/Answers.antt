@@ -1,0 +1,11 @@
+use Rattle.std.proofs.Common.{refl}
+use Rattle.guided_walk.specs.Told.{noted}
+use Rattle.guided_walk.specs.Guided.{joins}
+use Rattle.plain_walk.specs.Data.{told_of}
+use Rattle.plain_walk.proofs.OrderLemmas.{both_done}
+use Rattle.plain_walk.proofs.order.has_needs.Goals as goal
+
+pub returns-then-has_thread : goal.returns-then-has_thread
+returns-then-has_thread c = λ t.
+    both_done (told_of c.args.notes.now c.args.calls.now) c.args.done.now c.args.at (joins (noted (told_of c.args.notes.now c.args.calls.now) c.args.at))
+    (c.if-has_thread.ensures refl) (c.has_end.ensures t)
