@@ -1,3 +1,4 @@
 pub mod Replacing
 pub mod RuleLemmas
 pub mod Walking
+pub mod Parts

@@ -5,3 +5,4 @@ pub mod Simpler
 pub mod Swapped
 pub mod Walks
 pub mod Bytes
+pub mod Forms

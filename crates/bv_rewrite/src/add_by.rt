@@ -7,16 +7,36 @@ ghost use Rattle.bv_terms.specs.Values.{KeepsTerms, width_at};
 ghost use Rattle.bv_terms.specs.Variables.{IsTermOf, KeepsVariables};
 ghost use Rattle.bv_rewrite.specs.Swapped.{HoldsOf};
 
+use crate::form::{Form, form_of};
 use crate::rewrite::Rewrite;
 use crate::view::{Swap, View};
 use bv_terms::node::{BinOp, Node, TermId};
 use bv_terms::pool::TermPool;
 use odr_list::memory::Memory;
 
-/// A term with the width of this node, its value under every assignment, and no variable that the node hasn't: what the
-/// book says of it, or else what the pool keeps for it. The pool gains at most one term, and none where memory is wanting.
-/// The work is that of one look-up, whatever the children stand on.
+/// A term with the width of this node, its value under every assignment, and no variable that the node hasn't: what its
+/// form alone makes it, what the book says of it, or else what the pool keeps for it. The pool gains at most one term, and none where memory is wanting.
+/// The work is that of one look-up, and of one step for each node that a part of a term is looked for in.
 pub fn add_by<'a, R: Rewrite>(
+    pool: &mut TermPool<'a>,
+    node: Node<'a>,
+    book: &R,
+) -> Result<TermId, Memory>
+    requires { IsFitting (width_at pool.old) (length pool.old) (shape_of node) }
+    ensures term { IfOk result (λ id. IsTermOf pool.old pool.new (shape_of node.entry) id.number) }
+    ensures gains { IfOk result (λ id. GainsAtMost pool.old pool.new id.number) }
+    ensures older { KeepsTerms pool.old pool.new }
+    ensures variables { KeepsVariables pool.old pool.new }
+    ensures err { OnErr result (pool.new ≡ pool.old) }
+{
+    match form_of(pool, node) {
+        Form::Known(id) => Ok(id),
+        Form::New(plain) => by_book(pool, plain, book),
+    }
+}
+
+// A term of this node: what the book says of it, or else what the pool keeps for it.
+fn by_book<'a, R: Rewrite>(
     pool: &mut TermPool<'a>,
     node: Node<'a>,
     book: &R,
