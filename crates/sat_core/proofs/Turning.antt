@@ -1,6 +1,6 @@
 -- What a turn of the search ends with.
-use Rattle.std.proofs.Common.{◌≡◌, ℕ, ◌+◌, ◌<◌, ◌≤◌, ◌⊎◌, inl, inr, Bool, true, Option, Some, None, List, [], ◌∷◌, ◌++◌, length, refl, sym, ◌∙◌, ap, subst, arith}
-use Rattle.std.specs.Prelude.{Result, IfOk, Contains, slice_set, slice_index_or}
+use Rattle.std.proofs.Common.{◌≡◌, ℕ, ◌+◌, ◌-◌, ◌<◌, ◌≤◌, ◌⊎◌, inl, inr, Bool, true, Option, Some, None, List, [], ◌∷◌, ◌++◌, length, refl, sym, ◌∙◌, ap, subst, arith}
+use Rattle.std.specs.Prelude.{Result, IfOk, IfSome, Contains, slice_set, slice_index_or}
 use Rattle.std.proofs.lemmas.Bool.{cases_eq}
 use Rattle.std.proofs.lemmas.Option.{slice_get_within, get_or_from_slice_get}
 use Rattle.std.proofs.lemmas.Result.{IfOk-weaker}
@@ -19,7 +19,7 @@ use Rattle.sat_core.specs.declared.search.Turn.{Turn}
 use Rattle.sat_core.specs.declared.search.Turn.TheVariants.{Closed}
 use Rattle.sat_core.specs.Analyses.{IsAnalysed, IsLearned}
 use Rattle.sat_core.specs.Lines.{IsNewLine, AreLines, NoneEmpty, EndsEmpty, value_at}
-use Rattle.sat_core.specs.Searching.{MarksFirst, IsDescent, IsBottom, IsModel, IsSoFar, IsTurn}
+use Rattle.sat_core.specs.Searching.{MarksFirst, IsBack, IsDescent, IsBottom, IsModel, IsSoFar, IsTurn}
 use Rattle.sat_core.proofs.Answering as answering
 
 pub clash-false : (s : State) (clash : Option ℕ) (number : ℕ) → IsBottom s clash → clash ≡ Some number → IsFalseClause s.clauses (value_in s.steps) number
@@ -81,11 +81,29 @@ last-lines f first budget s marks before lines line key second to is descent lea
 pub more-lines : (start before lines : List (List Lit)) (line : List Lit) → length start ≤ length before → lines ≡ before ++ line ∷ [] → length start < length lines
 more-lines start before lines line grown made = omega (arith, grown, longer before lines line made)
 
+pub made : (before lines : List (List Lit)) (pushed unpacked packed line : List Lit) → lines ≡ before ++ pushed ∷ [] → pushed ≡ unpacked → unpacked ≡ packed → packed ≡ line → lines ≡ before ++ line ∷ []
+made before lines pushed unpacked packed line e same same' same'' = e ∙ ap (λ (l : List Lit). before ++ l ∷ []) (same ∙ same' ∙ same'')
+
+pub fewer-left : (budget : ℕ) (before lines : List (List Lit)) (line : List Lit) → length before < budget → lines ≡ before ++ line ∷ [] → budget - length lines < budget - length before
+fewer-left budget before lines line below e = omega (arith, below, longer before lines line e)
+
+pub next-descent : (f : Formula) (first : List ℕ) (before lines : List (List Lit)) (s t : State) (line given : List Lit) → IsDescent f.vars f.clauses first before s → IsBack s given t → given ≡ line → lines ≡ before ++ line ∷ []
+    → IsDescent f.vars f.clauses first lines t
+next-descent f first before lines s t line given descent back same e =
+    subst (λ (ls : List (List Lit)). IsDescent f.vars f.clauses first ls t) (sym e)
+    (answering.descent-back f.vars f.clauses before first s t line descent (subst (λ (l : List Lit). IsBack s l t) same back))
+
+pub learned-given : (s : State) (marks : List Bool) (l : Learned) (given : List Lit) → IsLearned s marks l.line.items l.key l.second l.to → given ≡ l.line.items → IsLearned s marks given l.key l.second l.to
+learned-given s marks l given is same = subst (λ (line : List Lit). IsLearned s marks line l.key l.second l.to) (sym same) is
+
 -- the values of an engine that is at rest
 pub found-values : (f : Formula) (s : State) (first : List ℕ) (lines : List (List Lit)) (clash : Option ℕ) (values : List Bool) → AllKnown f → IsDescent f.vars f.clauses first lines s → IsBottom s clash → clash ≡ None → IsModel s values
     → (length values ≡ f.vars) × Satisfies (value_at values) f.clauses
 found-values f s first lines clash values known descent bottom e model =
     answering.model-satisfies f s first lines values known descent (subst (λ (o : Option ℕ). IsBottom s o) e bottom) model
+
+pub if_some : {X : Type 0} (P : X → Type 0) (o : Option X) (x : X) → IfSome o P → o ≡ Some x → P x
+if_some P o x is e = subst (λ p. IfSome p P) e is
 
 -- marks on listed variables alone
 marks-set : (marks : List Bool) (listed : List ℕ) (v : ℕ) → MarksFirst marks listed → Contains listed v → MarksFirst (slice_set marks v true) listed

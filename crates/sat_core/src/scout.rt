@@ -34,7 +34,6 @@ impl Scout {
     }
 
     /// Searches for so many lines; values that satisfy the clauses, if it finds some.
-    #[tactic(none)]
     pub fn look_ahead<'a>(&mut self, alloc: Global, clauses: &ClauseStore<'a>, turn: u64) -> Result<Option<Vec<bool>>, Memory>
         ensures { IfOk result (λ values. IfSome values (λ v. IsFoundBy clauses.now v.items)) }
     {

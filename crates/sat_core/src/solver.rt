@@ -46,7 +46,6 @@ impl<'s, 'a> Solver<'s, 'a> {
     /// Looks for an assignment that satisfies the clauses, or derives the empty line, in fewer lines than the budget.
     /// Two searches take turns: one whose lines are the derivation, and one over all variables, which often finds an
     /// assignment sooner, and whose lines are thrown away. Each turn is bounded, so the answer depends on nothing else.
-    #[tactic(none)]
     pub fn solve(self, alloc: Global, budget: u64) -> Result<Answer, Memory>
         requires { 1 ≤ budget }
         ensures { IfOk result (λ answer. IsAnswer self.entry.formula self.entry.first budget answer) }
@@ -57,7 +56,6 @@ impl<'s, 'a> Solver<'s, 'a> {
 }
 
 /// The two searches by turns.
-#[tactic(none)]
 fn take_turns<'a>(alloc: Global, clauses: &ClauseStore<'a>, first: &[u64], budget: u64) -> Result<Answer, Memory>
     requires positive { 1 ≤ budget }
     requires known { All (λ x. x < clauses.now.vars) first.now }
