@@ -15,8 +15,8 @@ use std::alloc::Global;
 /// How many lines a turn of the scout has for one of the search.
 const LINES: u64 = 4;
 
-/// Where the last turn ended. Nothing is owed of the scout's lines but that a model satisfies the clauses: so
-/// between turns they are kept while they are few, and then thrown away.
+/// What is kept between turns: guesses, and whether the clauses were refuted. Nothing is owed of the scout's lines, so
+/// they are thrown away after each turn.
 #[derive(Drop)]
 pub struct Scout {
     hints: Hints,

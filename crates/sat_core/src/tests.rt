@@ -20,7 +20,7 @@ struct Values {
 }
 
 fn bit(lit: Lit) -> u64 {
-    1 << (lit.var & 63)
+    1 << (lit.var % 64)
 }
 
 fn is_true(values: Values, lit: Lit) -> bool {
@@ -59,6 +59,13 @@ fn all_false(values: Values, clause: &[Lit]) -> Values {
     values
 }
 
+fn is_other(seen: Option<Lit>, lit: Lit) -> bool {
+    match seen {
+        Some(other) => other.var != lit.var || other.positive != lit.positive,
+        None => false,
+    }
+}
+
 /// The values with what a clause forces; none where it is false.
 fn after(values: Values, clause: &[Lit]) -> Option<Values> {
     if some_true(values, clause) {
@@ -67,7 +74,7 @@ fn after(values: Values, clause: &[Lit]) -> Option<Values> {
     let mut only = None;
     for lit in clause {
         if !is_true(values, lit.opposite()) {
-            if only.is_some() && only != Some(*lit) {
+            if is_other(only, *lit) {
                 return Some(values);
             }
             only = Some(*lit);
@@ -201,6 +208,44 @@ fn add_random<'a>(alloc: Global, store: &mut ClauseStore<'a>, seed: u64, count: 
     Ok(())
 }
 
+/// One of five pigeons is in one of four holes, or isn't.
+fn is_in(pigeon: u64, hole: u64, positive: bool) -> Lit {
+    Lit {
+        var: pigeon % 5 * 4 + hole % 4,
+        positive,
+    }
+}
+
+/// A pigeon shares no hole with an earlier one.
+fn add_apart<'a>(alloc: Global, store: &mut ClauseStore<'a>, pigeon: u64, hole: u64) -> Result<(), Memory> {
+    for other in 0..pigeon {
+        let lits = [is_in(pigeon, hole, false), is_in(other, hole, false)];
+        add(alloc, store, lits.as_slice())?;
+    }
+    Ok(())
+}
+
+/// Five pigeons in four holes.
+fn add_pigeons<'a>(alloc: Global, store: &mut ClauseStore<'a>) -> Result<(), Memory> {
+    for _var in 0..20 {
+        store.fresh()?;
+    }
+    for pigeon in 0..5 {
+        let lits = [
+            is_in(pigeon, 0, true),
+            is_in(pigeon, 1, true),
+            is_in(pigeon, 2, true),
+            is_in(pigeon, 3, true),
+        ];
+        add(alloc, store, lits.as_slice())?;
+        add_apart(alloc, store, pigeon, 0)?;
+        add_apart(alloc, store, pigeon, 1)?;
+        add_apart(alloc, store, pigeon, 2)?;
+        add_apart(alloc, store, pigeon, 3)?;
+    }
+    Ok(())
+}
+
 /// The variables of a store below a number.
 fn listed(alloc: Global, vars: u64, below: u64) -> Result<Vec<u64>, Memory>
     ensures { IfOk result (λ all. All (λ x. x < vars) all.items) }
@@ -233,6 +278,22 @@ fn answers_agree_with_all_assignments(rt: HostRuntime) -> Result<(), Fail> {
         let solver = Solver::new(rt.alloc(), &store, first.as_slice())?;
         let answer = solver.solve(rt.alloc(), 1000)?;
         assert!(rt; is_right(&store, &answer, 1000));
+    }
+    Ok(())
+}
+
+#[test]
+fn pigeons_find_no_holes(rt: HostRuntime) -> Result<(), Fail> {
+    let arena = Bump::new(rt.alloc());
+    let mut store = ClauseStore::new(rt.alloc(), &arena);
+    add_pigeons(rt.alloc(), &mut store)?;
+    let solver = Solver::new(rt.alloc(), &store, &[])?;
+    let answer = solver.solve(rt.alloc(), 1000)?;
+    assert!(rt; is_right(&store, &answer, 0));
+    match answer {
+        Answer::Refuted(_) => {}
+        Answer::Spent(_) => assert!(rt; false),
+        Answer::Model(_) => assert!(rt; false),
     }
     Ok(())
 }
