@@ -18,8 +18,8 @@ use Rattle.sat_core.specs.declared.analysis.Learned.{Learned}
 use Rattle.sat_core.specs.declared.search.Turn.{Turn}
 use Rattle.sat_core.specs.declared.search.Turn.TheVariants.{Closed}
 use Rattle.sat_core.specs.Analyses.{IsAnalysed, IsLearned}
-use Rattle.sat_core.specs.Lines.{IsNewLine, AreLines, NoneEmpty, EndsEmpty, value_at}
-use Rattle.sat_core.specs.Searching.{MarksFirst, IsBack, IsDescent, IsBottom, IsModel, IsSoFar, IsTurn}
+use Rattle.sat_core.specs.Lines.{AreLines, NoneEmpty, value_at}
+use Rattle.sat_core.specs.Searching.{MarksFirst, IsBack, IsDescent, IsBottom, IsModel, IsRefutation, IsSoFar, IsTurn}
 use Rattle.sat_core.proofs.Answering as answering
 
 pub clash-false : (s : State) (clash : Option ℕ) (number : ℕ) → IsBottom s clash → clash ≡ Some number → IsFalseClause s.clauses (value_in s.steps) number
@@ -33,15 +33,23 @@ clash-within s clash number bottom e =
 pub loaded-descent : (f : Formula) (first : List ℕ) (lines : List (List Lit)) (o : Option State) (s : State) → IsLoaded f.vars (f.clauses ++ lines) o → o ≡ Some s → IsDescent f.vars f.clauses first lines s
 loaded-descent f first lines o s is e = answering.descent-first f.vars f.clauses lines first s (answering.loaded-first f.vars (f.clauses ++ lines) o s is e)
 
+longer : (before lines : List (List Lit)) (line : List Lit) → lines ≡ before ++ line ∷ [] → length lines ≡ length before + 1
+longer before lines line made = ap (λ (xs : List (List Lit)). length xs) made ∙ length-append before (line ∷ [])
+
 -- the empty line follows from what nothing can make true
 
+refutation : (f : Formula) (first : List ℕ) (budget : ℕ) (before : List (List Lit)) → IsSoFar f first budget before → Follows (f.clauses ++ before) [] → IsRefutation f first budget (before ++ [] ∷ [])
+refutation f first budget before is follows =
+    let ended = answering.closed-lines f first budget before is follows in
+    (ended.0, ended.1, omega (arith, is.fewer, longer before (before ++ [] ∷ []) [] refl))
+
 pub closed-load : (f : Formula) (first : List ℕ) (budget : ℕ) (before : List (List Lit)) (o : Option State) → IsSoFar f first budget before → IsLoaded f.vars (f.clauses ++ before) o → o ≡ None
-    → AreLines f.vars f.clauses first (before ++ [] ∷ []) × EndsEmpty (before ++ [] ∷ [])
-closed-load f first budget before o is loaded e = answering.closed-lines f first budget before is (answering.loaded-none f.vars (f.clauses ++ before) o loaded e)
+    → IsRefutation f first budget (before ++ [] ∷ [])
+closed-load f first budget before o is loaded e = refutation f first budget before is (answering.loaded-none f.vars (f.clauses ++ before) o loaded e)
 
 closed-analysis : (f : Formula) (first : List ℕ) (budget : ℕ) (before : List (List Lit)) (s : State) → IsSoFar f first budget before → IsDescent f.vars f.clauses first before s → Follows s.clauses []
-    → AreLines f.vars f.clauses first (before ++ [] ∷ []) × EndsEmpty (before ++ [] ∷ [])
-closed-analysis f first budget before s is descent follows = answering.closed-lines f first budget before is (subst (λ (cs : List (List Lit)). Follows cs []) descent.holds follows)
+    → IsRefutation f first budget (before ++ [] ∷ [])
+closed-analysis f first budget before s is descent follows = refutation f first budget before is (subst (λ (cs : List (List Lit)). Follows cs []) descent.holds follows)
 
 learned-none : (s : State) (marks : List Bool) (o : Option Learned) → IsAnalysed s marks o → o ≡ None → Follows s.clauses []
 learned-none s marks o is e = subst (λ (p : Option Learned). IsAnalysed s marks p) e is
@@ -50,18 +58,15 @@ pub learned-some : (s : State) (marks : List Bool) (o : Option Learned) (l : Lea
 learned-some s marks o l is e = subst (λ (p : Option Learned). IsAnalysed s marks p) e is
 
 pub closed-analysed : (f : Formula) (first : List ℕ) (budget : ℕ) (before : List (List Lit)) (s : State) (marks : List Bool) (o : Option Learned) → IsSoFar f first budget before → IsDescent f.vars f.clauses first before s
-    → IsAnalysed s marks o → o ≡ None → AreLines f.vars f.clauses first (before ++ [] ∷ []) × EndsEmpty (before ++ [] ∷ [])
+    → IsAnalysed s marks o → o ≡ None → IsRefutation f first budget (before ++ [] ∷ [])
 closed-analysed f first budget before s marks o is descent analysed e = closed-analysis f first budget before s is descent (learned-none s marks o analysed e)
 
 -- a turn that ends with the empty line
-pub closed-turn : {E : Type 0} (f : Formula) (first : List ℕ) (budget : ℕ) (start before : List (List Lit)) (r : Result Turn E) → AreLines f.vars f.clauses first (before ++ [] ∷ []) × EndsEmpty (before ++ [] ∷ [])
+pub closed-turn : {E : Type 0} (f : Formula) (first : List ℕ) (budget : ℕ) (start before : List (List Lit)) (r : Result Turn E) → IsRefutation f first budget (before ++ [] ∷ [])
     → IfOk r (λ turn. turn ≡ Closed (before ++ [] ∷ [])) → IfOk r (λ turn. IsTurn f first budget start turn)
 closed-turn f first budget start before r is closed = IfOk-weaker r _ _ (λ turn e. subst (λ (t : Turn). IsTurn f first budget start t) (sym e) is) closed
 
 -- one line more
-
-longer : (before lines : List (List Lit)) (line : List Lit) → lines ≡ before ++ line ∷ [] → length lines ≡ length before + 1
-longer before lines line made = ap (λ (xs : List (List Lit)). length xs) made ∙ length-append before (line ∷ [])
 
 pub next-so_far : (f : Formula) (first : List ℕ) (budget : ℕ) (s : State) (marks : List Bool) (before lines : List (List Lit)) (line : List Lit) (key second : Lit) (to : ℕ) → IsSoFar f first budget before
     → IsDescent f.vars f.clauses first before s → IsLearned s marks line key second to → MarksFirst marks first → IsWalk s.clauses s.steps → lines ≡ before ++ line ∷ [] → length lines < budget → IsSoFar f first budget lines

@@ -72,16 +72,20 @@ pub record IsSoFar (f : Formula) (first : List ℕ) (budget : ℕ) (so_far : Lis
   pub none_empty : NoneEmpty so_far
   pub fewer : length so_far < budget
 
+-- lines of which the last is the empty one, no more of them than the budget
+abbrev pub IsRefutation : Formula → List ℕ → ℕ → List (List Lit) → Type 0
+IsRefutation f first budget lines = AreLines f.vars f.clauses first lines × EndsEmpty lines × (length lines ≤ budget)
+
 -- an assignment, the empty line, as many lines as the budget, or more lines than before
 abbrev pub IsTurn : Formula → List ℕ → ℕ → List (List Lit) → Turn → Type 0
 IsTurn f first budget before (Found values) = (length values.items ≡ f.vars) × Satisfies (value_at values.items) f.clauses
-IsTurn f first budget before (Closed lines) = AreLines f.vars f.clauses first lines × EndsEmpty lines
+IsTurn f first budget before (Closed lines) = IsRefutation f first budget lines
 IsTurn f first budget before (Ended lines) = AreLines f.vars f.clauses first lines × (length lines ≡ budget) × NoneEmpty lines
 IsTurn f first budget before (Paused lines) = IsSoFar f first budget lines × (length before < length lines)
 
 abbrev pub IsAnswer : Formula → List ℕ → ℕ → Answer → Type 0
 IsAnswer f first budget (Model values) = (length values ≡ f.vars) × Satisfies (value_at values) f.clauses
-IsAnswer f first budget (Refuted lines) = AreLines f.vars f.clauses first lines × EndsEmpty lines
+IsAnswer f first budget (Refuted lines) = IsRefutation f first budget lines
 IsAnswer f first budget (Spent lines) = AreLines f.vars f.clauses first lines × (length lines ≡ budget) × NoneEmpty lines
 
 -- clauses, and the variables that are decided before all others

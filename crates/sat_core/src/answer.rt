@@ -38,7 +38,7 @@ impl Assignment {
 pub enum Answer {
     /// An assignment that satisfies every clause.
     Model(Assignment),
-    /// A derivation whose last line is the empty one.
+    /// A derivation whose last line is the empty one, of no more lines than the budget.
     Refuted(Derivation),
     /// A derivation of as many lines as the budget, none of them empty.
     Spent(Derivation),
