@@ -1,0 +1,4 @@
+pub mod Leaving
+pub mod Gathering
+pub mod Answering
+pub mod Turning

@@ -1,0 +1,10 @@
+use Rattle.std.proofs.Common.{◌≡◌, ◌∙◌, ◌<◌, ◌≤◌, ◌+◌, ℕ, List, [], ◌∷◌, ◌++◌, Option, Bool, Some, None, length, slice_get, subst, sym, ap, refl, arith, rules, inl, inr}
+use Rattle.clause_store.specs.declared.lit.Lit.{Lit}
+use Rattle.sat_trail.specs.Engines.{State, IsSettled, with_decision}
+use Rattle.sat_core.specs.Searching.{IsDescent, IsDescended, IsBottom, IsPicked}
+use Rattle.sat_core.proofs.Answering as answering
+use Rattle.sat_core.proofs.descent.decide.Goals as goal
+
+pub returns-clause-descent : goal.returns-clause-descent
+returns-clause-descent c =
+    answering.descent-decided (c.args.clauses.now).vars (c.args.clauses.now).clauses c.args.lines.now c.args.first.now c.args.engine c.in_ok-decided.decided c.args.lit c.requires.descent c.requires.settled c.requires.picked c.in_ok-decided.ensures

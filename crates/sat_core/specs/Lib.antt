@@ -1,0 +1,4 @@
+pub mod Marks
+pub mod Analyses
+pub mod Lines
+pub mod Searching
