@@ -3,6 +3,7 @@
 use crate::files::{DATA, TEXT};
 use crate::stepping::{image_of, is_same, machine_of, step_of, thread_of};
 use Effect::{Ends, Exits, Nothing, Owner, Spawns, Takes};
+use elf_image::image::Image;
 use odr_log::log::Call;
 use odr_log::read_log;
 use plain_machine::machine as plain;
@@ -39,7 +40,9 @@ enum Effect {
 
 /// A call of thread 1: its number in a7, a0 and a1; a0 after it, its record in a log, and its effect.
 /// Thread 0 goes on and holds mutex 0, thread 1 holds mutex 1, and thread 2 ended with 77.
-static CALLS: [(u32, u32, u32, u32, &[u8], Effect); 51] = [
+type Row = (u32, u32, u32, u32, &'static [u8], Effect);
+
+static CALLS: [Row; 51] = [
     (1, 7, 0, 7, &[1, 7, 0, 0, 0], Exits(7)),
     (2, 5, 0, 5, &[2], Ends(5)),
     (3, TEXT + 4, 99, 3, &[3, 4, 0, 1, 0, 3], Spawns(TEXT + 4)),
@@ -107,6 +110,15 @@ static WAITS: [(u32, u32, bool); 8] = [
     (5, 2, false),
     (7, 0, false),
 ];
+
+/// The rows, so that no proof about a loop over them reads the table.
+fn calls() -> &'static [Row] {
+    &CALLS
+}
+
+fn waits() -> &'static [(u32, u32, bool)] {
+    &WAITS
+}
 
 /// Thread 1 before a call.
 fn caller_at(call: u32, a0: u32, a1: u32) -> Thread {
@@ -223,30 +235,42 @@ fn compare_threads(rt: &impl Abort, row: usize, caller: Thread, effect: Effect, 
     }
 }
 
+/// Whether a step's note is the call that a record spells.
+fn is_noted(alloc: Global, note: &Note, record: &[u8]) -> Result<bool, Fail> {
+    match note {
+        Note::Called(made) => is_call(alloc, made, record),
+        _ => Ok(false),
+    }
+}
+
+/// The caller after a call with this answer.
+fn caller_after(call: u32, a0: u32, a1: u32, answer: u32) -> Thread {
+    let mut caller = caller_at(call, a0, a1);
+    caller.local.pc = TEXT + 4;
+    caller.local.registers[10] = answer;
+    caller.retired = 1;
+    caller
+}
+
+/// Makes the call of a row.
+fn makes(rt: &impl Abort, alloc: Global, image: &Image, row: usize, made: Row) -> Result<(), Fail> {
+    let (call, a0, a1, answer, record, effect) = made;
+    let state = machine_at(alloc, call, a0, a1)?;
+    let stepped = step_of(rt, alloc, image, state, 1)?;
+    assert!(rt; is_noted(alloc, &stepped.note, record)?, "row {row}");
+    let caller = caller_after(call, a0, a1, answer);
+    let threads = stepped.state.core.threads.as_slice();
+    compare_threads(rt, row, caller, effect, threads);
+    compare_shared(rt, row, effect, &stepped.state.core);
+    compare_tape(rt, row, a0, effect, &stepped.state);
+    Ok(())
+}
+
 #[test]
 fn calls_are_answered_by_the_table(rt: HostRuntime) -> Result<(), Fail> {
-    let alloc = rt.alloc();
-    let image = image_of(alloc, ECALL)?;
-    for (row, (call, a0, a1, answer, record, effect)) in CALLS.iter().enumerate() {
-        let state = machine_at(alloc, *call, *a0, *a1)?;
-        let stepped = step_of(&rt, alloc, &image, state, 1)?;
-        match &stepped.note {
-            Note::Called(made) => assert!(rt; is_call(alloc, made, record)?, "row {row}"),
-            _ => assert!(rt; false, "row {row}"),
-        }
-        let mut caller = caller_at(*call, *a0, *a1);
-        caller.local.pc = TEXT + 4;
-        caller.local.registers[10] = *answer;
-        caller.retired = 1;
-        compare_threads(
-            &rt,
-            row,
-            caller,
-            *effect,
-            stepped.state.core.threads.as_slice(),
-        );
-        compare_shared(&rt, row, *effect, &stepped.state.core);
-        compare_tape(&rt, row, *a0, *effect, &stepped.state);
+    let image = image_of(rt.alloc(), ECALL)?;
+    for (row, made) in calls().iter().enumerate() {
+        makes(&rt, rt.alloc(), &image, row, *made)?;
     }
     Ok(())
 }
@@ -255,7 +279,7 @@ fn calls_are_answered_by_the_table(rt: HostRuntime) -> Result<(), Fail> {
 fn locks_and_joins_wait(rt: HostRuntime) -> Result<(), Fail> {
     let alloc = rt.alloc();
     let image = image_of(alloc, ECALL)?;
-    for (call, a0, waits) in &WAITS {
+    for (call, a0, waits) in waits() {
         let state = machine_at(alloc, *call, *a0, 0)?;
         assert_eq!(rt;
             plain::enabled(alloc, &image, &state, 1)?,

@@ -2,6 +2,7 @@
 use Rattle.std.specs.Prelude.{◌≡◌, ◌≢◌, ◌<◌, ℕ, List, [], ◌++◌, Option, Some, None, Result, Ok, Err}
 use Rattle.std.proofs.Common.{sym, ◌∙◌, ap, subst, inl, inr, arith}
 use Rattle.std.proofs.lemmas.List.{append-nil}
+use Rattle.odr_limits.specs.declared.TheConstants.{MOST_STEPS}
 use Rattle.odr_io.specs.Outside.{Held}
 use Rattle.elf_image.specs.Layout.{Layout}
 use Rattle.odr_log.specs.declared.log.Log.{Log}
@@ -116,10 +117,10 @@ pub one_log : OneSpelling → (file : List ℕ) (a b : Log) → IsRecording file
 one_log spelling file a b p q =
     (spelling b a [] q.is_log.0.grammar p.is_log.0.grammar (sym p.is_log.1 ∙ q.is_log.1 ∙ sym (append-nil (log_bytes b)))).0
 
-few_steps : OneSpelling → (file : List ℕ) (a b : Log) → IsRecording file a → IsInGrammar b → file ≡ log_bytes b → 250000 < steps_of b → ⊥
+few_steps : OneSpelling → (file : List ℕ) (a b : Log) → IsRecording file a → IsInGrammar b → file ≡ log_bytes b → MOST_STEPS < steps_of b → ⊥
 few_steps spelling file a b p grammar bytes many =
     let same : b ≡ a = (spelling b a [] grammar p.is_log.0.grammar (sym p.is_log.1 ∙ bytes ∙ sym (append-nil (log_bytes b)))).0 in
-    let more : 250000 < steps_of a = subst (λ (l : Log). 250000 < steps_of l) same many in
+    let more : MOST_STEPS < steps_of a = subst (λ (l : Log). MOST_STEPS < steps_of l) same many in
     let few = p.is_log.0.steps in omega arith
 
 recording_apart : OneSpelling → NoLog → (file : List ℕ) (log : Log) (v : Verdict) → IsRecording file log → NoRecording file v → ⊥

@@ -16,7 +16,7 @@ use Rattle.sched_text.specs.FirstBad.{IsFirstBad}
 use Rattle.odr_task.specs.Verdict.{Verdict, Reason, Refused}
 use Rattle.odr_task.specs.Refusals.{bad_elf, bad_log, log_too_large, bad_line, unknown_name, text_too_large, input_too_large}
 use Rattle.odr_task.specs.Files.{Gives, Refuses, FromFile}
-use Rattle.odr_top.specs.Limits.{most_program_bytes, most_schedule_bytes, most_input_bytes, most_source_bytes}
+use Rattle.odr_limits.specs.declared.TheConstants.{MOST_LOG_BYTES, MOST_PROGRAM_BYTES, MOST_TEXT_BYTES}
 
 -- ---- a program
 
@@ -38,14 +38,14 @@ check_name check.TooLarge = codes "TooLarge"
 check_name check.EntryOutside = codes "EntryOutside"
 
 pub record IsProgram (file : List ℕ) (image : Layout) : Type 0 where
-  pub within : length file ≤ most_program_bytes
+  pub within : length file ≤ MOST_PROGRAM_BYTES
   pub is_image : IsImage file image
 
 -- a file above its limit is refused as one that is too large
 abbrev pub NoProgram : List ℕ → Verdict → Type 0
 NoProgram file verdict =
-    ((most_program_bytes < length file) × (verdict ≡ Refused (bad_elf (check_name check.TooLarge))))
-    ⊎ ((failed : Check) × (length file ≤ most_program_bytes) × (first_check file ≡ Some failed) × (verdict ≡ Refused (bad_elf (check_name failed))))
+    ((MOST_PROGRAM_BYTES < length file) × (verdict ≡ Refused (bad_elf (check_name check.TooLarge))))
+    ⊎ ((failed : Check) × (length file ≤ MOST_PROGRAM_BYTES) × (first_check file ≡ Some failed) × (verdict ≡ Refused (bad_elf (check_name failed))))
 
 -- ---- a log
 
@@ -61,27 +61,27 @@ NoRecording file verdict =
 -- ---- a schedule
 
 pub record IsScheduleFile (text schedule : List ℕ) : Type 0 where
-  pub within : length text ≤ most_schedule_bytes
+  pub within : length text ≤ MOST_LOG_BYTES
   pub is_text : IsTextOf schedule text
 
 abbrev pub NoScheduleFile : List ℕ → Verdict → Type 0
 NoScheduleFile text verdict =
-    ((most_schedule_bytes < length text) × (verdict ≡ Refused text_too_large))
-    ⊎ ((number : ℕ) × (length text ≤ most_schedule_bytes) × IsFirstBad text number × (verdict ≡ Refused (bad_line number)))
+    ((MOST_LOG_BYTES < length text) × (verdict ≡ Refused text_too_large))
+    ⊎ ((number : ℕ) × (length text ≤ MOST_LOG_BYTES) × IsFirstBad text number × (verdict ≡ Refused (bad_line number)))
 
 -- ---- an input, byte by byte
 
 pub record IsInput (file tape : List ℕ) : Type 0 where
-  pub within : length file ≤ most_input_bytes
+  pub within : length file ≤ MOST_TEXT_BYTES
   pub same : tape ≡ file
 
 abbrev pub NoInput : List ℕ → Verdict → Type 0
-NoInput file verdict = (most_input_bytes < length file) × (verdict ≡ Refused input_too_large)
+NoInput file verdict = (MOST_TEXT_BYTES < length file) × (verdict ≡ Refused input_too_large)
 
 -- ---- an assembly text
 
 pub record IsSource (text file : List ℕ) : Type 0 where
-  pub within : length text ≤ most_source_bytes
+  pub within : length text ≤ MOST_TEXT_BYTES
   pub is_file : AsmFile text file
 
 -- the reason of a fault in a text, none for want of memory
@@ -99,8 +99,8 @@ pub record HasFault (text : List ℕ) (reason : Reason) : Type 0 where
 
 abbrev pub NoSource : List ℕ → Verdict → Type 0
 NoSource text verdict =
-    ((most_source_bytes < length text) × (verdict ≡ Refused text_too_large))
-    ⊎ ((reason : Reason) × (length text ≤ most_source_bytes) × HasFault text reason × (verdict ≡ Refused reason))
+    ((MOST_TEXT_BYTES < length text) × (verdict ≡ Refused text_too_large))
+    ⊎ ((reason : Reason) × (length text ≤ MOST_TEXT_BYTES) × HasFault text reason × (verdict ≡ Refused reason))
 
 -- ---- files of several commands
 

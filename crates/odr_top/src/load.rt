@@ -2,12 +2,13 @@ ghost use Rattle.std.specs.Prelude.{◌≡◌, ◌≢◌, ◌≤◌, length, IfO
 ghost use Rattle.elf_image.specs.Fault.{check_of};
 ghost use Rattle.odr_log.specs.Grammar.{IsValid};
 ghost use Rattle.odr_task.specs.Files.{Gives, Refuses, StopsBy, Reads};
-ghost use Rattle.odr_top.specs.Limits.{most_program_bytes, most_schedule_bytes, most_source_bytes};
+ghost use Rattle.odr_limits.specs.declared.TheConstants.{MOST_LOG_BYTES, MOST_PROGRAM_BYTES, MOST_TEXT_BYTES};
 ghost use Rattle.odr_top.specs.Inputs.{check_name, IsProgram, NoProgram, IsRecording, NoRecording, IsScheduleFile, NoScheduleFile, IsInput, NoInput, IsSource, NoSource, GivesRun, RefusesRun, GivesTape, RefusesTape};
 
 use elf_image::fault::{Check, ElfFault};
 use elf_image::image::Image;
 use odr_io::files::Files;
+use odr_limits::{MOST_LOG_BYTES, MOST_PROGRAM_BYTES, MOST_TEXT_BYTES};
 use odr_list::bytes::Bytes;
 use odr_log::log::Log;
 use odr_log::{LogFault, read_log};
@@ -19,21 +20,6 @@ use sched_text::fault::SchedFault;
 use sched_text::read::read_schedule;
 use sched_text::schedule::Schedule;
 use std::alloc::Global;
-
-/// The most bytes of a program's file.
-const ELF_LIMIT: u64 = 16_777_216;
-
-/// The most bytes of a log's file.
-const LOG_LIMIT: u64 = 67_108_864;
-
-/// The most bytes of a schedule's text.
-const SCHEDULE_LIMIT: u64 = 67_108_864;
-
-/// The most bytes of an input.
-const INPUT_LIMIT: u64 = 1_048_576;
-
-/// The most bytes of an assembly text.
-const SOURCE_LIMIT: u64 = 1_048_576;
 
 /// The name of a check on an ELF file.
 fn check_name(check: Check) -> &'static str
@@ -84,7 +70,7 @@ fn check_of(fault: ElfFault) -> Option<Check>
 
 /// The image that a program's bytes give.
 fn image_in<'a>(alloc: Global, bytes: &[u8]) -> Result<Image, Stop<'a>>
-    requires { length bytes.now ≤ most_program_bytes }
+    requires { length bytes.now ≤ MOST_PROGRAM_BYTES }
     ensures found { IfOk result (IsProgram bytes.now) }
     ensures refused { IfErr result (StopsBy (NoProgram bytes.now)) }
     ensures no_fault { result ≢ Err Stop.Device }
@@ -114,7 +100,7 @@ fn log_in<'a>(alloc: Global, bytes: &[u8]) -> Result<Log, Stop<'a>>
 
 /// The schedule of which bytes are the text.
 fn schedule_in<'a>(alloc: Global, text: &[u8]) -> Result<Schedule, Stop<'a>>
-    requires { length text.now ≤ most_schedule_bytes }
+    requires { length text.now ≤ MOST_LOG_BYTES }
     ensures found { IfOk result (IsScheduleFile text.now) }
     ensures refused { IfErr result (StopsBy (NoScheduleFile text.now)) }
     ensures no_fault { result ≢ Err Stop.Device }
@@ -128,7 +114,7 @@ fn schedule_in<'a>(alloc: Global, text: &[u8]) -> Result<Schedule, Stop<'a>>
 
 /// The program that an assembly text becomes.
 fn program_in<'a>(alloc: Global, text: &[u8]) -> Result<Bytes, Stop<'a>>
-    requires { length text.now ≤ most_source_bytes }
+    requires { length text.now ≤ MOST_TEXT_BYTES }
     ensures found { IfOk result (IsSource text.now) }
     ensures refused { IfErr result (StopsBy (NoSource text.now)) }
     ensures no_fault { result ≢ Err Stop.Device }
@@ -151,7 +137,13 @@ pub fn load_image<'a, F: Files>(
     ensures { Reads (Gives IsProgram (F.held files.old) name.now) (Refuses NoProgram (F.held files.old) name.now)
         result (F.held files.old) (F.held files.new) (F.faults files.old) (F.faults files.new) }
 {
-    let bytes = load(alloc, files, name, ELF_LIMIT, Refusal::BadElf("TooLarge"))?;
+    let bytes = load(
+        alloc,
+        files,
+        name,
+        MOST_PROGRAM_BYTES,
+        Refusal::BadElf("TooLarge"),
+    )?;
     image_in(alloc, bytes.as_slice())
 }
 
@@ -160,7 +152,7 @@ fn load_log<'a, F: Files>(alloc: Global, files: &mut F, name: &'a str) -> Result
     ensures { Reads (Gives IsRecording (F.held files.old) name.now) (Refuses NoRecording (F.held files.old) name.now)
         result (F.held files.old) (F.held files.new) (F.faults files.old) (F.faults files.new) }
 {
-    let bytes = load(alloc, files, name, LOG_LIMIT, Refusal::LogTooLarge)?;
+    let bytes = load(alloc, files, name, MOST_LOG_BYTES, Refusal::LogTooLarge)?;
     log_in(alloc, bytes.as_slice())
 }
 
@@ -196,7 +188,7 @@ pub fn load_schedule<'a, F: Files>(
     ensures { Reads (Gives IsScheduleFile (F.held files.old) name.now) (Refuses NoScheduleFile (F.held files.old) name.now)
         result (F.held files.old) (F.held files.new) (F.faults files.old) (F.faults files.new) }
 {
-    let text = load(alloc, files, name, SCHEDULE_LIMIT, Refusal::TextTooLarge)?;
+    let text = load(alloc, files, name, MOST_LOG_BYTES, Refusal::TextTooLarge)?;
     schedule_in(alloc, text.as_slice())
 }
 
@@ -209,7 +201,7 @@ fn load_input<'a, F: Files>(
     ensures { Reads (λ tape. Gives IsInput (F.held files.old) name.now tape.items) (Refuses NoInput (F.held files.old) name.now)
         result (F.held files.old) (F.held files.new) (F.faults files.old) (F.faults files.new) }
 {
-    let bytes = load(alloc, files, name, INPUT_LIMIT, Refusal::InputTooLarge)?;
+    let bytes = load(alloc, files, name, MOST_TEXT_BYTES, Refusal::InputTooLarge)?;
     Ok(bytes.into_vec())
 }
 
@@ -237,6 +229,6 @@ pub fn load_source<'a, F: Files>(
     ensures { Reads (Gives IsSource (F.held files.old) name.now) (Refuses NoSource (F.held files.old) name.now)
         result (F.held files.old) (F.held files.new) (F.faults files.old) (F.faults files.new) }
 {
-    let text = load(alloc, files, name, SOURCE_LIMIT, Refusal::TextTooLarge)?;
+    let text = load(alloc, files, name, MOST_TEXT_BYTES, Refusal::TextTooLarge)?;
     program_in(alloc, text.as_slice())
 }

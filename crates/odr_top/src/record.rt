@@ -1,6 +1,6 @@
 ghost use Rattle.std.specs.Prelude.{◌≡◌, ◌≤◌, Some, string_bytes, IfOk};
 ghost use Rattle.odr_log.specs.Grammar.{IsValid};
-ghost use Rattle.odr_words.specs.Limits.{most_steps};
+ghost use Rattle.odr_limits.specs.declared.TheConstants.{MOST_STEPS};
 ghost use Rattle.recorder.specs.Seeded.{seeded, log_of_run};
 ghost use Rattle.odr_task.specs.Files.{Reads};
 ghost use Rattle.odr_task.specs.Done.{Makes, Prepared};
@@ -68,7 +68,7 @@ fn recorded<'a>(
     log: &'a str,
     options: Options<'_>,
 ) -> Result<Done<'a>, Memory>
-    requires { options.limit ≤ most_steps }
+    requires { options.limit ≤ MOST_STEPS }
     ensures { IfOk result (Makes (recorded (log_of_run image.now tape.items (seeded image.now tape.items options.entry.seed options.entry.limit))) (Some log.now)) }
 {
     let run = record_run(alloc, image, tape, options.seed, options.limit)?;
@@ -97,7 +97,7 @@ pub fn record<'a, F: Files>(
     log: &'a str,
     options: Options<'a>,
 ) -> Result<Done<'a>, Stop<'a>>
-    requires { options.limit ≤ most_steps }
+    requires { options.limit ≤ MOST_STEPS }
     ensures { Reads (Prepared (record_owes (F.held files.old) elf.now options.entry.seed options.entry.limit options.entry.input.now) (Some log.now))
         (record_owes (F.held files.old) elf.now options.entry.seed options.entry.limit options.entry.input.now)
         result (F.held files.old) (F.held files.new) (F.faults files.old) (F.faults files.new) }

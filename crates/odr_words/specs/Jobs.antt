@@ -1,7 +1,8 @@
 -- Which words are which job.
 use Rattle.std.specs.Prelude.{◌-◌, ◌^◌, ◌≤◌, ◌&&◌, Bool, List, [], ◌∷◌, map, codes, bytes_eq, Option, Some, None, option_map, option_and_then, if◌then◌else◌}
 use Rattle.std.specs.Map.{lookup}
-use Rattle.odr_words.specs.Limits.{default_seed, default_steps, most_steps, default_lines, most_lines, most_demo}
+use Rattle.odr_limits.specs.declared.TheConstants.{MOST_STEPS}
+use Rattle.odr_words.specs.Limits.{default_seed, default_steps, default_lines, most_lines, most_demo}
 use Rattle.odr_words.specs.Arguments.{Text, Options, Arguments, word_of, arguments_of, value_of, are_known, are_distinct}
 use Rattle.odr_words.specs.Numbers.{number_in, number_or}
 use Rattle.odr_words.specs.declared.command.Command.{Command}
@@ -37,7 +38,7 @@ options_of other = []
 abbrev pub job_with : Command → List Text → (Text → Option Text) → Option Job
 job_with command.Record (elf ∷ log ∷ []) value = do
   seed ← number_or default_seed 0 (2 ^ 64 - 1) (value (codes "seed"))
-  limit ← number_or default_steps 1 most_steps (value (codes "limit"))
+  limit ← number_or default_steps 1 MOST_STEPS (value (codes "limit"))
   Some (job.Record elf log seed limit (value (codes "input")))
 job_with command.Infer (elf ∷ log ∷ out ∷ []) value = do
   steps ← number_or default_lines 1 most_lines (value (codes "steps"))
@@ -69,7 +70,7 @@ job_of (first ∷ words) = do
 
 -- the numbers of a job are at most their limits
 abbrev pub IsWithinLimits : Job → Type 0
-IsWithinLimits (job.Record elf log seed limit input) = limit ≤ most_steps
+IsWithinLimits (job.Record elf log seed limit input) = limit ≤ MOST_STEPS
 IsWithinLimits (job.Infer elf log out steps) = steps ≤ most_lines
 IsWithinLimits (job.Demo number) = number ≤ most_demo
 IsWithinLimits (job.Check elf log cert) = Unit {0}

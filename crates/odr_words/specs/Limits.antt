@@ -1,4 +1,5 @@
--- The numbers of options and words: their defaults, and the most that they may be.
+-- The numbers of options and words: their defaults, and the most that they may be. The most steps of a recording
+-- are those of a log.
 use Rattle.std.specs.Prelude.{ℕ}
 
 abbrev pub default_seed : ℕ
@@ -7,9 +8,6 @@ default_seed = 42
 -- steps of a recording
 abbrev pub default_steps : ℕ
 default_steps = 100000
-
-abbrev pub most_steps : ℕ
-most_steps = 250000
 
 -- derived lines of an inference
 abbrev pub default_lines : ℕ

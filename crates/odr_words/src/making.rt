@@ -1,5 +1,6 @@
 ghost use Rattle.std.specs.Prelude.{◌≡◌, ◌≤◌, ◌-◌, ◌^◌, IfOk, IfSome, option_map, is_some};
-ghost use Rattle.odr_words.specs.Limits.{default_seed, default_steps, most_steps, default_lines, most_lines, most_demo};
+ghost use Rattle.odr_limits.specs.declared.TheConstants.{MOST_STEPS};
+ghost use Rattle.odr_words.specs.Limits.{default_seed, default_steps, default_lines, most_lines, most_demo};
 ghost use Rattle.odr_words.specs.Jobs.{job_with, IsWithinLimits};
 ghost use Rattle.odr_words.specs.Numbers.{number_in, number_or};
 ghost use Rattle.odr_words.specs.Read.{seen_positionals, seen_values, value_in, Reads};
@@ -11,6 +12,7 @@ use crate::job::{Job, WordText};
 use crate::number::{number_in, number_or};
 use crate::options::OptionValues;
 use crate::positionals::Positionals;
+use odr_limits::MOST_STEPS;
 use odr_list::memory::Memory;
 use std::alloc::Global;
 
@@ -33,10 +35,10 @@ fn seed(options: &OptionValues<'_>) -> Option<u64>
 
 /// The limit of steps, its default or none where it is no number within its limits.
 fn limit(options: &OptionValues<'_>) -> Option<u32>
-    ensures value { result ≡ number_or default_steps 1 most_steps (seen_values options.now).limit }
-    ensures within { IfSome result (λ number. number ≤ 250000) }
+    ensures value { result ≡ number_or default_steps 1 MOST_STEPS (seen_values options.now).limit }
+    ensures within { IfSome result (λ number. number ≤ MOST_STEPS) }
 {
-    match number_or(100_000, 1, 250_000, options.limit) {
+    match number_or(100_000, 1, MOST_STEPS, options.limit) {
         Some(limit) => Some(limit as u32),
         None => None,
     }
@@ -45,7 +47,7 @@ fn limit(options: &OptionValues<'_>) -> Option<u32>
 /// The count of derived lines, its default or none where it is no number within its limits.
 fn steps(options: &OptionValues<'_>) -> Option<u64>
     ensures value { result ≡ number_or default_lines 1 most_lines (seen_values options.now).steps }
-    ensures within { IfSome result (λ number. number ≤ 1000000000) }
+    ensures within { IfSome result (λ number. number ≤ most_lines) }
 {
     number_or(20_000, 1, 1_000_000_000, options.steps)
 }
@@ -53,7 +55,7 @@ fn steps(options: &OptionValues<'_>) -> Option<u64>
 /// The size of a demo, or none where it is no number within its limits.
 fn size(text: &str) -> Option<u32>
     ensures value { result ≡ number_in 0 most_demo text.now }
-    ensures within { IfSome result (λ number. number ≤ 40) }
+    ensures within { IfSome result (λ number. number ≤ most_demo) }
 {
     match number_in(text, 0, 40) {
         Some(number) => Some(number as u32),

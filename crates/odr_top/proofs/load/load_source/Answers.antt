@@ -1,4 +1,5 @@
 use Rattle.std.proofs.Common.{◌<◌, List, ℕ, length, inl, refl}
+use Rattle.odr_limits.specs.declared.TheConstants.{MOST_TEXT_BYTES}
 use Rattle.odr_top.specs.Inputs.{IsSource, NoSource}
 use Rattle.odr_top.proofs.Reading.{reads_out, reads_stop, turns_refuses, loaded}
 use Rattle.odr_top.proofs.load.load_source.Goals as goal
@@ -6,9 +7,9 @@ use Rattle.odr_top.proofs.load.load_source.Goals as goal
 pub returns-in_err-text : goal.returns-in_err-text
 returns-in_err-text g c =
     reads_out _ _ c.in_err-text.field-0.0 c.from_residual.result _ _ _ _ c.from_residual.ensures.1
-    (reads_stop _ _ _ _ _ _ _ _ _ (turns_refuses NoSource _ _ 1048576 _ (λ (file : List ℕ) (more : 1048576 < length file). inl (more, refl))) c.in_err-text.ensures)
+    (reads_stop _ _ _ _ _ _ _ _ _ (turns_refuses NoSource _ _ MOST_TEXT_BYTES _ (λ (file : List ℕ) (more : MOST_TEXT_BYTES < length file). inl (more, refl))) c.in_err-text.ensures)
 
 pub returns : goal.returns
 returns g c =
-    loaded IsSource NoSource _ _ c.args.name.now 1048576 _ c.in_ok-text.text c.as_slice.result.now c.program_in.result _ _ c.in_ok-text.ensures c.as_slice.ensures
+    loaded IsSource NoSource _ _ c.args.name.now MOST_TEXT_BYTES _ c.in_ok-text.text c.as_slice.result.now c.program_in.result _ _ c.in_ok-text.ensures c.as_slice.ensures
     c.program_in.ensures.found c.program_in.ensures.refused c.program_in.ensures.no_fault
