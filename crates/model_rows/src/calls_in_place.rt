@@ -112,7 +112,10 @@ fn call(
     a1: u32,
 ) -> Option<CallDone> {
     let args = CallArgs { number, a0, a1 };
-    if !state.is_live(tid) || state.blocked(tid, args) {
+    if !state.is_live(tid) {
+        return None;
+    }
+    if state.blocked(tid, args) {
         return None;
     }
     Some(state.apply(tid, args, memory))

@@ -1,4 +1,4 @@
-use Rattle.std.proofs.Common.{rules, ◌≡◌, false, sym, ◌∙◌}
+use Rattle.std.proofs.Common.{sym, ◌∙◌}
 use Rattle.rv_model.specs.Step.{reach_of}
 use Rattle.guest_mem.specs.Blocks.{cells_of}
 use Rattle.guest_calls.specs.Table.{buffer_in}
@@ -9,5 +9,4 @@ pub apply-requires-clause-unblocked : goal.apply-requires-clause-unblocked
 apply-requires-clause-unblocked c =
     let args : CallArgs = record { number = c.args.number; a0 = c.args.a0; a1 = c.args.a1 } in
     let same = c.blocked.ensures (reach_of (cells_of c.args.memory.now) (buffer_in args)) in
-    let free : c.blocked.result ≡ false = search rules in
-    sym same ∙ free
+    sym same ∙ c.if-blocked.false
