@@ -1,28 +1,25 @@
 -- What holds of the search from line to line.
-use Rattle.std.proofs.Common.{◌≡◌, ◌≢◌, ℕ, zero, suc, ◌+◌, ◌-◌, ◌<◌, ◌≤◌, ◌⊎◌, Bool, true, false, not, cond, Option, Some, None, List, [], ◌∷◌, ◌++◌, take, length, get_or, slice_get, refl, sym, ◌∙◌, ap, subst, inl, inr, arith}
-use Rattle.std.specs.Prelude.{All, Any, Contains, IsSome, is_some}
-use Rattle.std.proofs.lemmas.Bool.{cases_eq, cases_lt, false≢true}
-use Rattle.std.proofs.lemmas.Option.{none-some, same_Some, slice_get_within, get_or_from_slice_get}
-use Rattle.std.proofs.lemmas.List.{take_all, take-take, take-append-le, take_at, length-append, append_assoc, append-nil}
-use Rattle.std.proofs.lemmas.List.Elements.{All-contains, All-nil, All-push, Contains-append_left, Contains-append_right}
+use Rattle.std.proofs.Common.{◌≡◌, ◌≢◌, ℕ, ◌+◌, ◌<◌, ◌≤◌, ◌⊎◌, Bool, true, false, not, cond, Option, Some, None, List, [], ◌∷◌, ◌++◌, take, length, slice_get, refl, sym, ◌∙◌, ap, subst, inl, inr, arith}
+use Rattle.std.specs.Prelude.{All, Contains, is_some}
+use Rattle.std.proofs.lemmas.Bool.{false≢true}
+use Rattle.std.proofs.lemmas.Option.{none-some, slice_get_within, get_or_from_slice_get}
+use Rattle.std.proofs.lemmas.List.{take-take, take-append-le, take_at, length-append, append_assoc}
+use Rattle.std.proofs.lemmas.List.Elements.{All-contains, All-nil, All-push, Contains-append_right}
 use Rattle.clause_store.specs.declared.lit.Lit.{Lit}
-use Rattle.clause_store.specs.Literals.{literal_value, IsTrueUnder, Satisfies}
+use Rattle.clause_store.specs.Literals.{IsTrueUnder, Satisfies}
 use Rattle.clause_store.specs.Formula.{Formula, IsKnown, AllKnown}
-use Rattle.clause_store.specs.UnitRule.{Partial, MakesTrue, MakesFalse, LeavesOpen, HasTwoOpen, IsAtRest, AllAtRest, Follows}
-use Rattle.clause_store.specs.Rooted.{IsRooted}
-use Rattle.clause_store.proofs.Members.{All-from_contains, All-slice_get, All-left, Contains-slice_get}
+use Rattle.clause_store.specs.UnitRule.{MakesTrue, LeavesOpen, IsAtRest, AllAtRest, Follows}
+use Rattle.clause_store.proofs.Members.{All-from_contains, All-left}
 use Rattle.clause_store.proofs.Rest.{true_not_false, open_not_true, open_not_false}
 use Rattle.clause_store.proofs.StepLemmas.{lit_eq_cases}
 use Rattle.sat_trail.specs.declared.step.Step.{Step}
-use Rattle.sat_trail.specs.Paths.{IsPath, IsWhy, IsWalk, IsDecision, NoDecision, value_in, step_of}
-use Rattle.sat_trail.specs.Visits.{IsGrown, IsFalseClause}
+use Rattle.sat_trail.specs.Paths.{IsPath, IsWhy, IsWalk, IsDecision, value_in, step_of}
 use Rattle.sat_trail.specs.Engines.{State, CanOpen, CanUnit, IsFirst, IsLoaded, IsPropagated, IsSettled, path_of, with_decision, with_front, with_line, with_unit}
-use Rattle.sat_trail.proofs.Listing.{push-cases, get-take, get-last, get-append, get-within}
+use Rattle.sat_trail.proofs.Listing.{push-cases, get-take, get-last, get-within}
 use Rattle.sat_trail.proofs.Fronts.{open-front}
-use Rattle.sat_core.specs.Marks.{IsMarked}
-use Rattle.sat_core.specs.Analyses.{IsLearned, IsNameable, IsOnce}
+use Rattle.sat_core.specs.Analyses.{IsLearned, IsNameable}
 use Rattle.sat_core.specs.Lines.{HasKey, HasAll, KeysDiffer, FirstDecide, IsNewLine, AreLines, NoneEmpty, EndsEmpty, value_at}
-use Rattle.sat_core.specs.Searching.{MarksFirst, AllDecided, FirstDecided, IsPicked, IsOver, IsDescent, IsDescended, IsBottom, IsModel, IsBack, IsSoFar}
+use Rattle.sat_core.specs.Searching.{MarksFirst, FirstDecided, IsPicked, IsDescent, IsDescended, IsBottom, IsModel, IsBack, IsSoFar}
 
 -- At the values of a line's key a clause whose literals the line has all has no true literal and at most one open one.
 pub keys_differ : KeysDiffer
@@ -116,10 +113,11 @@ closed-lines f first budget before is follows =
 -- where all is decided and at rest, the steps' values satisfy the clauses
 pub model-satisfies : (f : Formula) (s : State) (first : List ℕ) (so_far : List (List Lit)) (values : List Bool) → AllKnown f → IsDescent f.vars f.clauses first so_far s → IsBottom s None → IsModel s values
     → (length values ≡ f.vars) × Satisfies (value_at values) f.clauses
-model-satisfies f s first so_far values known descent bottom model =
-    (model.0 ∙ descent.same_vars,
-    All-from_contains (IsTrueUnder (value_at values)) f.clauses
-    (λ clause listed. go clause (All-contains (IsKnown f.vars) f.clauses clause known listed) (All-contains (IsAtRest (value_in s.steps)) f.clauses clause rests listed)))
+model-satisfies f s first so_far values known descent bottom model = (
+  model.0 ∙ descent.same_vars,
+  All-from_contains (IsTrueUnder (value_at values)) f.clauses
+      (λ clause listed. go clause (All-contains (IsKnown f.vars) f.clauses clause known listed) (All-contains (IsAtRest (value_in s.steps)) f.clauses clause rests listed)),
+)
   where
     rests : AllAtRest (value_in s.steps) f.clauses
     rests = All-left (IsAtRest (value_in s.steps)) f.clauses so_far (subst (λ (cs : List (List Lit)). AllAtRest (value_in s.steps) cs) descent.holds (bottom.0).1)

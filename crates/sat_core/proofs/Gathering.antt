@@ -1,25 +1,23 @@
 -- A line gathered on the way down.
-use Rattle.std.proofs.Common.{◌≡◌, ◌≢◌, ℕ, zero, suc, ◌+◌, ◌<◌, ◌≤◌, ◌⊎◌, Bool, true, false, not, Option, Some, None, List, [], ◌∷◌, ◌++◌, take, length, slice_get, refl, sym, ◌∙◌, ap, subst, inl, inr, arith, add-one}
-use Rattle.std.specs.Prelude.{All, Contains, IfSome}
-use Rattle.std.proofs.lemmas.Bool.{cases_eq, cases_lt}
+use Rattle.std.proofs.Common.{◌≡◌, ◌≢◌, ℕ, zero, suc, ◌+◌, ◌<◌, ◌≤◌, ◌⊎◌, Bool, Option, Some, None, List, [], ◌∷◌, ◌++◌, take, length, slice_get, refl, sym, ◌∙◌, ap, subst, inl, inr, arith}
+use Rattle.std.specs.Prelude.{Contains, IfSome}
+use Rattle.std.proofs.lemmas.Bool.{cases_eq}
 use Rattle.std.proofs.lemmas.Option.{none-some, same_Some, slice_get_within}
-use Rattle.std.proofs.lemmas.List.{length-append}
-use Rattle.std.proofs.lemmas.List.Elements.{All-contains, All-nil, All-cons, All-push, Contains-push, Contains-push_cases, Contains-append_left}
+use Rattle.std.proofs.lemmas.List.Elements.{All-push, Contains-push, Contains-push_cases, Contains-append_left}
 use Rattle.clause_store.specs.declared.lit.Lit.{Lit}
 use Rattle.clause_store.specs.Literals.{opposite}
-use Rattle.clause_store.specs.Formula.{IsKnown}
-use Rattle.clause_store.specs.UnitRule.{Partial, MakesTrue, MakesFalse, LeavesOpen}
+use Rattle.clause_store.specs.UnitRule.{MakesTrue, MakesFalse, LeavesOpen}
 use Rattle.clause_store.proofs.Members.{All-from_contains, All-slice_get, Contains-head, Contains-cons_cases, Contains-nil, Contains-slice_get}
-use Rattle.clause_store.proofs.Rest.{open_not_true, open_not_false}
+use Rattle.clause_store.proofs.Rest.{open_not_true}
 use Rattle.sat_trail.specs.declared.step.Step.{Step}
-use Rattle.sat_trail.specs.Paths.{IsPath, IsFresh, IsWalk, IsDecision, value_in}
+use Rattle.sat_trail.specs.Paths.{IsPath, IsWalk, IsDecision, value_in}
 use Rattle.sat_trail.specs.Engines.{State, path_of}
 use Rattle.sat_trail.proofs.Listing.{push-cases, not-twice}
 use Rattle.sat_trail.proofs.Fronts.{step-true, open-before, open-front}
 use Rattle.sat_core.specs.declared.analysis.Cut.{Cut}
 use Rattle.sat_core.specs.declared.analysis.Jump.{Jump}
-use Rattle.sat_core.specs.Marks.{IsMarked, IsMarkedAll}
-use Rattle.sat_core.specs.Analyses.{IsLeft, IsForced, IsAllowed, IsUnmarked, IsCut, IsOnce, IsNameable, IsTop, IsGathered, IsLearned, IsLowered, IsKept, IsLiteralAt}
+use Rattle.sat_core.specs.Marks.{IsMarkedAll}
+use Rattle.sat_core.specs.Analyses.{IsForced, IsAllowed, IsUnmarked, IsCut, IsOnce, IsNameable, IsTop, IsGathered, IsLearned, IsLowered, IsKept, IsLiteralAt}
 use Rattle.sat_core.proofs.Leaving.{left-skip, left-expand, left-keep, left-end}
 
 step-known : (s : State) (p : ℕ) (step : Step) → IsPath (path_of s) → slice_get s.steps p ≡ Some step → step.lit.var < s.vars
@@ -252,12 +250,14 @@ gathered-learned s first marks key line jump lit second path is e at =
         let top : IsTop s.steps line (opposite is.step.lit) 0 jump.to None = subst (λ (o : Option ℕ). IsTop s.steps line (opposite is.step.lit) 0 jump.to o) none is.top in
         (subst (λ (l : Lit). Contains line l) (sym (same ∙ e)) is.keyed, λ alone k listed. top.0 k listed ∙ sym e, λ p below decision. absurd (top.1 p (omega arith) below decision))
     rest (Some q) some other =
-        let top : IsTop s.steps line (opposite is.step.lit) 0 jump.to (Some q) = subst (λ (o : Option ℕ). IsTop s.steps line (opposite is.step.lit) 0 jump.to o) some is.top in
-        (subst (λ (l : Lit). Contains line l) (sym other.2) (top.3 other.0 other.1),
-        λ alone k listed. absurd (apart q other top.1 alone),
-        λ p below decision.
-            (apart q other top.1,
-            subst (λ (l : Lit). LeavesOpen (value_in (take p s.steps)) l) (sym other.2) (open-before s.steps q p other.0 path.fresh other.1 (top.2 p (omega arith) below decision))))
+        let top : IsTop s.steps line (opposite is.step.lit) 0 jump.to (Some q) = subst (λ (o : Option ℕ). IsTop s.steps line (opposite is.step.lit) 0 jump.to o) some is.top in (
+          subst (λ (l : Lit). Contains line l) (sym other.2) (top.3 other.0 other.1),
+          λ alone k listed. absurd (apart q other top.1 alone),
+          λ p below decision. (
+            apart q other top.1,
+            subst (λ (l : Lit). LeavesOpen (value_in (take p s.steps)) l) (sym other.2) (open-before s.steps q p other.0 path.fresh other.1 (top.2 p (omega arith) below decision)),
+          ),
+        )
       where
         apart : (q : ℕ) → (o : IsLiteralAt s.steps lit (Some q) second) → q < jump.to → lit ≢ second
         apart q o below same =

@@ -1,22 +1,22 @@
 -- What is left of a false clause, step by step downwards.
-use Rattle.std.proofs.Common.{◌≡◌, ◌≢◌, ℕ, zero, suc, ◌+◌, ◌<◌, ◌≤◌, ◌⊎◌, Bool, true, false, not, Option, Some, None, List, [], ◌∷◌, ◌++◌, take, length, slice_get, refl, sym, ◌∙◌, ap, subst, inl, inr, arith}
+use Rattle.std.proofs.Common.{◌≡◌, ℕ, ◌+◌, ◌<◌, ◌≤◌, ◌⊎◌, Bool, not, Option, Some, List, [], ◌∷◌, ◌++◌, take, length, slice_get, sym, ◌∙◌, ap, subst, inl, inr, arith}
 use Rattle.std.specs.Prelude.{All, Contains}
 use Rattle.std.proofs.lemmas.Bool.{cases_eq, cases_lt}
-use Rattle.std.proofs.lemmas.Option.{same_Some, slice_get_within}
+use Rattle.std.proofs.lemmas.Option.{same_Some}
 use Rattle.std.proofs.lemmas.List.{take_all}
 use Rattle.std.proofs.lemmas.List.Elements.{All-contains, All-nil, Contains-push}
 use Rattle.clause_store.specs.declared.lit.Lit.{Lit}
 use Rattle.clause_store.specs.Literals.{opposite}
-use Rattle.clause_store.specs.UnitRule.{Partial, MakesTrue, MakesFalse, IsAtRest, AllAtRest, Follows}
+use Rattle.clause_store.specs.UnitRule.{Partial, MakesTrue, MakesFalse, IsAtRest, Follows}
 use Rattle.clause_store.proofs.Members.{All-from_contains, All-slice_get, All-left, Contains-head}
 use Rattle.clause_store.proofs.Rest.{forced, rest-not_false}
 use Rattle.clause_store.proofs.StepLemmas.{lit_eq_cases}
 use Rattle.sat_trail.specs.declared.step.Step.{Step}
-use Rattle.sat_trail.specs.Paths.{IsWhy, IsReason, IsWalk, IsDecision, value_in}
+use Rattle.sat_trail.specs.Paths.{IsWhy, IsReason, IsWalk, value_in}
 use Rattle.sat_trail.specs.Visits.{IsFalseClause}
-use Rattle.sat_trail.proofs.Listing.{get-take, get-within, not-twice}
+use Rattle.sat_trail.proofs.Listing.{get-take, not-twice}
 use Rattle.sat_trail.proofs.Fronts.{StepOf, step-of}
-use Rattle.sat_core.specs.Marks.{IsMarked, IsMarkedAll, NoneMarked}
+use Rattle.sat_core.specs.Marks.{IsMarked, IsMarkedAll}
 use Rattle.sat_core.specs.Analyses.{IsLeft, IsForced, IsKey, IsUnmarked}
 
 -- values of marked steps are values of what makes these true

@@ -1,5 +1,5 @@
 -- How a false clause leads down the steps to a line.
-use Rattle.std.specs.Prelude.{◌≡◌, ◌≢◌, ◌⊎◌, ◌≤◌, ◌<◌, ◌+◌, ℕ, Bool, Option, Some, None, List, [], ◌∷◌, length, take, slice_get, All, Contains}
+use Rattle.std.specs.Prelude.{◌≡◌, ◌≢◌, ◌⊎◌, ◌≤◌, ◌<◌, ℕ, Bool, Option, Some, None, List, [], ◌∷◌, length, take, slice_get, All, Contains}
 use Rattle.clause_store.specs.declared.lit.Lit.{Lit}
 use Rattle.clause_store.specs.Literals.{opposite}
 use Rattle.clause_store.specs.Formula.{IsKnown}

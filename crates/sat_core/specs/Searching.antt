@@ -1,5 +1,5 @@
 -- A search for an assignment, with the lines that it learns.
-use Rattle.std.specs.Prelude.{◌≡◌, ◌≢◌, ◌⊎◌, ◌≤◌, ◌<◌, ℕ, Bool, Option, Some, None, IsSome, List, ◌∷◌, [], ◌++◌, length, slice_get, slice_index_or, false, All, Contains}
+use Rattle.std.specs.Prelude.{◌≡◌, ◌⊎◌, ◌≤◌, ◌<◌, ℕ, Bool, Option, Some, None, IsSome, List, ◌∷◌, [], ◌++◌, length, slice_get, slice_index_or, false, All, Contains}
 use Rattle.clause_store.specs.declared.lit.Lit.{Lit}
 use Rattle.clause_store.specs.Literals.{Satisfies}
 use Rattle.clause_store.specs.Formula.{Formula}

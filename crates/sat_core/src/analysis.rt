@@ -58,7 +58,13 @@ pub struct Learned {
 
 /// A line that follows from the clauses by way of a false one; none where nothing makes all of them true. The line
 /// says of its variables what the steps below the jump say, turned round, but for the key.
-pub fn analyse(alloc: Global, engine: &Engine, clash: u32, is_first: &[bool], hints: &Hints) -> Result<Option<Learned>, Memory>
+pub fn analyse(
+    alloc: Global,
+    engine: &Engine,
+    clash: u32,
+    is_first: &[bool],
+    hints: &Hints,
+) -> Result<Option<Learned>, Memory>
     requires { IsFalseClause engine.now.clauses (value_in engine.now.steps) clash }
     ensures { IfOk result (λ learned. IsAnalysed engine.now is_first.now learned) }
 {
@@ -87,7 +93,10 @@ fn find_cut(engine: &Engine, is_first: &[bool], marks: &mut Vec<bool>) -> Option
                 mark_all(marks, engine.clause(clause as usize));
                 at = place;
             }
-            Choice::Key { decision } => return Some(Cut { key: place, decision }),
+            Choice::Key { decision } => return Some(Cut {
+                key: place,
+                decision,
+            }),
         }
     }
     None
@@ -115,7 +124,14 @@ fn choose(engine: &Engine, is_first: &[bool], marks: &[bool], place: usize) -> C
 }
 
 /// Goes down the steps below a cut, and gathers the rest of the line.
-fn gather(alloc: Global, engine: &Engine, hints: &Hints, is_first: &[bool], marks: &mut Vec<bool>, cut: Cut) -> Result<Learned, Memory>
+fn gather(
+    alloc: Global,
+    engine: &Engine,
+    hints: &Hints,
+    is_first: &[bool],
+    marks: &mut Vec<bool>,
+    cut: Cut,
+) -> Result<Learned, Memory>
     requires sized { length marks.old.items ≡ engine.now.vars }
     requires cut { IsCut engine.now is_first.now marks.old.items cut }
     ensures { IfOk result (λ learned. IsLearned engine.now is_first.now learned.line.items learned.key learned.second learned.to) }
@@ -131,7 +147,9 @@ fn gather(alloc: Global, engine: &Engine, hints: &Hints, is_first: &[bool], mark
     let mut at = cut.decision;
     while at > 0 {
         let place = at - 1;
-        jump = gather_step(engine, hints, is_first, marks, &mut line, cut.key, place, jump)?;
+        jump = gather_step(
+            engine, hints, is_first, marks, &mut line, cut.key, place, jump,
+        )?;
         at = place;
     }
     let second = literal_at(engine, key, jump.top);
@@ -144,7 +162,16 @@ fn gather(alloc: Global, engine: &Engine, hints: &Hints, is_first: &[bool], mark
 }
 
 /// Does the step at a place below the key.
-fn gather_step(engine: &Engine, hints: &Hints, is_first: &[bool], marks: &mut Vec<bool>, line: &mut Vec<Packed>, key: usize, place: usize, jump: Jump) -> Result<Jump, Memory>
+fn gather_step(
+    engine: &Engine,
+    hints: &Hints,
+    is_first: &[bool],
+    marks: &mut Vec<bool>,
+    line: &mut Vec<Packed>,
+    key: usize,
+    place: usize,
+    jump: Jump,
+) -> Result<Jump, Memory>
     requires sized { length marks.old.items ≡ engine.now.vars }
     requires gathered { IsGathered engine.now is_first.now marks.old.items key (place + 1) line.old.items jump }
     ensures gathered { IfOk result (λ next. IsGathered engine.now is_first.now marks.new.items key place line.new.items next) }
@@ -166,7 +193,13 @@ fn gather_step(engine: &Engine, hints: &Hints, is_first: &[bool], marks: &mut Ve
 
 /// What is done about the step at a place below the key. A forced step may always be widened: so which of those
 /// that lines may name are worth keeping is left to the hints, and nothing is asked of them.
-fn choose_below(engine: &Engine, hints: &Hints, is_first: &[bool], marks: &[bool], place: usize) -> Below
+fn choose_below(
+    engine: &Engine,
+    hints: &Hints,
+    is_first: &[bool],
+    marks: &[bool],
+    place: usize,
+) -> Below
     requires { place < length engine.now.steps }
     ensures { IsBelow engine.now is_first.now marks.now place result }
 {

@@ -11,7 +11,15 @@ use sat_trail::packed::Packed;
 
 /// Takes steps back and adds the line. Where a restart is due and the line goes back to a higher place, all
 /// decisions are taken back: two literals of the line are open there.
-pub fn go_back(engine: Engine, hints: &mut Hints, is_first: &[bool], line: &[Packed], key: Packed, second: Packed, to: usize) -> Result<Engine, Memory>
+pub fn go_back(
+    engine: Engine,
+    hints: &mut Hints,
+    is_first: &[bool],
+    line: &[Packed],
+    key: Packed,
+    second: Packed,
+    to: usize,
+) -> Result<Engine, Memory>
     requires { IsLearned engine is_first.now line.now key second to }
     ensures { IfOk result (λ new. IsBack engine line.now new) }
 {
@@ -28,7 +36,15 @@ pub fn go_back(engine: Engine, hints: &mut Hints, is_first: &[bool], line: &[Pac
 }
 
 /// Takes all steps from a lower decision on back: two literals of the line are open there.
-fn start_again(engine: Engine, is_first: &[bool], line: &[Packed], key: Packed, second: Packed, to: usize, lowest: usize) -> Result<Engine, Memory>
+fn start_again(
+    engine: Engine,
+    is_first: &[bool],
+    line: &[Packed],
+    key: Packed,
+    second: Packed,
+    to: usize,
+    lowest: usize,
+) -> Result<Engine, Memory>
     requires learned { IsLearned engine is_first.now line.now key second to }
     requires lower { lowest < to }
     requires decided { IsDecision engine.steps lowest }
@@ -41,7 +57,14 @@ fn start_again(engine: Engine, is_first: &[bool], line: &[Packed], key: Packed, 
 }
 
 /// Takes all steps back that the line's key and the jump go over: the key is true from there on.
-fn jump(engine: Engine, is_first: &[bool], line: &[Packed], key: Packed, second: Packed, to: usize) -> Result<Engine, Memory>
+fn jump(
+    engine: Engine,
+    is_first: &[bool],
+    line: &[Packed],
+    key: Packed,
+    second: Packed,
+    to: usize,
+) -> Result<Engine, Memory>
     requires { IsLearned engine is_first.now line.now key second to }
     ensures { IfOk result (λ new. IsBack engine line.now new) }
 {

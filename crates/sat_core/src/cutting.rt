@@ -177,7 +177,13 @@ impl Cutting {
     }
 
     // Does one marked step, and tells whether the key is found.
-    fn visit(&mut self, engine: &Engine, is_first: &[bool], at: usize, keyed: bool) -> Result<bool, Memory>
+    fn visit(
+        &mut self,
+        engine: &Engine,
+        is_first: &[bool],
+        at: usize,
+        keyed: bool,
+    ) -> Result<bool, Memory>
         requires { at < length engine.now.steps }
     {
         let lit = engine.step(at).lit;

@@ -13,7 +13,14 @@ use sat_trail::packed::Packed;
 
 /// Decides and applies the rule until a clause is false, whose number is given, or all variables are decided. The
 /// clauses and lines are those of the engine: only the contract reads them.
-pub fn descend<'a>(engine: Engine, hints: &mut Hints, first: &[u64], is_first: &[bool], clauses: &ClauseStore<'a>, lines: &Derivation) -> Result<(Engine, Option<u32>), Memory>
+pub fn descend<'a>(
+    engine: Engine,
+    hints: &mut Hints,
+    first: &[u64],
+    is_first: &[bool],
+    clauses: &ClauseStore<'a>,
+    lines: &Derivation,
+) -> Result<(Engine, Option<u32>), Memory>
     requires known { All (λ x. x < clauses.now.vars) first.now }
     requires marks { MarksFirst is_first.now first.now }
     requires descent { IsDescent clauses.now.vars clauses.now.clauses first.now lines.now engine }
@@ -35,7 +42,12 @@ pub fn descend<'a>(engine: Engine, hints: &mut Hints, first: &[u64], is_first: &
 }
 
 /// Applies the rule.
-fn settle<'a>(engine: Engine, first: &[u64], clauses: &ClauseStore<'a>, lines: &Derivation) -> Result<(Engine, Option<u32>), Memory>
+fn settle<'a>(
+    engine: Engine,
+    first: &[u64],
+    clauses: &ClauseStore<'a>,
+    lines: &Derivation,
+) -> Result<(Engine, Option<u32>), Memory>
     requires { IsDescent clauses.now.vars clauses.now.clauses first.now lines.now engine }
     ensures { IfOk result (λ ended. IsDescended clauses.now.vars clauses.now.clauses first.now lines.now (length engine.steps) ended.0 ended.1) }
 {
@@ -49,7 +61,13 @@ fn settle<'a>(engine: Engine, first: &[u64], clauses: &ClauseStore<'a>, lines: &
 }
 
 /// Decides an open literal.
-fn decide<'a>(engine: Engine, first: &[u64], clauses: &ClauseStore<'a>, lines: &Derivation, lit: Packed) -> Result<Engine, Memory>
+fn decide<'a>(
+    engine: Engine,
+    first: &[u64],
+    clauses: &ClauseStore<'a>,
+    lines: &Derivation,
+    lit: Packed,
+) -> Result<Engine, Memory>
     requires descent { IsDescent clauses.now.vars clauses.now.clauses first.now lines.now engine }
     requires settled { IsSettled engine None }
     requires picked { IsPicked engine first.now (Some lit) }

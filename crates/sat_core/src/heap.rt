@@ -3,7 +3,9 @@ use clause_store::Memory;
 use std::alloc::Global;
 
 const NOWHERE: u32 = 0xffff_ffff;
+
 const MOST: usize = 0x7fff_ffff;
+
 const HOTTEST: u64 = 0x1000_0000_0000_0000;
 
 /// A heap of variables, the hottest on top.

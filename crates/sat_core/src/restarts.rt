@@ -1,6 +1,7 @@
 //! When the search starts again from no decision: after 50 lines, 50, 100, 50, 50, 100, 200 and so on.
 
 const UNIT: u64 = 50;
+
 const LONGEST: u64 = 0x1_0000_0000;
 
 /// Lines since the last restart, and how many there are to be.

@@ -34,7 +34,12 @@ impl Scout {
     }
 
     /// Searches for so many lines; values that satisfy the clauses, if it finds some.
-    pub fn look_ahead<'a>(&mut self, alloc: Global, clauses: &ClauseStore<'a>, turn: u64) -> Result<Option<Vec<bool>>, Memory>
+    pub fn look_ahead<'a>(
+        &mut self,
+        alloc: Global,
+        clauses: &ClauseStore<'a>,
+        turn: u64,
+    ) -> Result<Option<Vec<bool>>, Memory>
         ensures { IfOk result (λ values. IfSome values (λ v. IsFoundBy clauses.now v.items)) }
     {
         if self.ended {
@@ -44,7 +49,16 @@ impl Scout {
         let marks = marks_of(alloc, all.as_slice(), clauses.vars() as usize)?;
         let budget = turn.saturating_mul(LINES).saturating_add(1);
         let lines = Derivation::new(alloc);
-        match search(alloc, clauses, all.as_slice(), marks.as_slice(), &mut self.hints, lines, budget, budget)? {
+        match search(
+            alloc,
+            clauses,
+            all.as_slice(),
+            marks.as_slice(),
+            &mut self.hints,
+            lines,
+            budget,
+            budget,
+        )? {
             Turn::Found(values) => Ok(Some(values)),
             // The clauses can't be satisfied: the search goes on alone.
             Turn::Closed(_) => {

@@ -29,7 +29,16 @@ pub enum Turn {
 }
 
 /// Goes on with a derivation until it has so many lines.
-pub fn search<'a>(alloc: Global, clauses: &ClauseStore<'a>, first: &[u64], is_first: &[bool], hints: &mut Hints, lines: Derivation, budget: u64, pause: u64) -> Result<Turn, Memory>
+pub fn search<'a>(
+    alloc: Global,
+    clauses: &ClauseStore<'a>,
+    first: &[u64],
+    is_first: &[bool],
+    hints: &mut Hints,
+    lines: Derivation,
+    budget: u64,
+    pause: u64,
+) -> Result<Turn, Memory>
     requires known { All (λ x. x < clauses.now.vars) first.now }
     requires marks { MarksFirst is_first.now first.now }
     requires so_far { IsSoFar clauses.now first.now budget lines }

@@ -35,7 +35,11 @@ impl<'s, 'a> Model for Solver<'s, 'a> {
 
 impl<'s, 'a> Solver<'s, 'a> {
     /// A search that decides these variables before all others.
-    pub fn new(alloc: Global, clauses: &'s ClauseStore<'a>, first: &[u64]) -> Result<Solver<'s, 'a>, Memory>
+    pub fn new(
+        alloc: Global,
+        clauses: &'s ClauseStore<'a>,
+        first: &[u64],
+    ) -> Result<Solver<'s, 'a>, Memory>
         requires { All (λ x. x < clauses.now.vars) first.now }
         ensures { IfOk result (λ solver. solver ≡ record { formula = clauses.entry.now; first = first.now }) }
     {
@@ -56,7 +60,12 @@ impl<'s, 'a> Solver<'s, 'a> {
 }
 
 /// The two searches by turns.
-fn take_turns<'a>(alloc: Global, clauses: &ClauseStore<'a>, first: &[u64], budget: u64) -> Result<Answer, Memory>
+fn take_turns<'a>(
+    alloc: Global,
+    clauses: &ClauseStore<'a>,
+    first: &[u64],
+    budget: u64,
+) -> Result<Answer, Memory>
     requires positive { 1 ≤ budget }
     requires known { All (λ x. x < clauses.now.vars) first.now }
     ensures { IfOk result (λ answer. IsAnswer clauses.now first.now budget answer) }
@@ -70,7 +79,9 @@ fn take_turns<'a>(alloc: Global, clauses: &ClauseStore<'a>, first: &[u64], budge
     let mut turn = FIRST_TURN;
     loop {
         let pause = (lines.len() as u64).saturating_add(turn);
-        match search(alloc, clauses, first, is_first, &mut hints, lines, budget, pause)? {
+        match search(
+            alloc, clauses, first, is_first, &mut hints, lines, budget, pause,
+        )? {
             Turn::Found(values) => return Ok(Answer::Model(Assignment::of(values))),
             Turn::Closed(closed) => return Ok(Answer::Refuted(closed)),
             Turn::Ended(ended) => return Ok(Answer::Spent(ended)),

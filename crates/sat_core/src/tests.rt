@@ -24,7 +24,11 @@ fn bit(lit: Lit) -> u64 {
 }
 
 fn is_true(values: Values, lit: Lit) -> bool {
-    let bits = if lit.positive { values.trues } else { values.falses };
+    let bits = if lit.positive {
+        values.trues
+    } else {
+        values.falses
+    };
     bits & bit(lit) != 0
 }
 
@@ -84,7 +88,12 @@ fn after(values: Values, clause: &[Lit]) -> Option<Values> {
 }
 
 /// One pass over clauses and the lines before one; none where one of them is false.
-fn pass<'a>(values: Values, store: &ClauseStore<'a>, lines: &Derivation, count: usize) -> Option<Values> {
+fn pass<'a>(
+    values: Values,
+    store: &ClauseStore<'a>,
+    lines: &Derivation,
+    count: usize,
+) -> Option<Values> {
     let mut values = values;
     for at in 0..store.len() {
         values = after(values, store.clause(at))?;
@@ -192,7 +201,12 @@ fn random_literal(number: u64) -> Lit {
 }
 
 /// Clauses of three literals over ten variables.
-fn add_random<'a>(alloc: Global, store: &mut ClauseStore<'a>, seed: u64, count: u64) -> Result<(), Memory> {
+fn add_random<'a>(
+    alloc: Global,
+    store: &mut ClauseStore<'a>,
+    seed: u64,
+    count: u64,
+) -> Result<(), Memory> {
     for _var in 0..10 {
         store.fresh()?;
     }
@@ -217,7 +231,12 @@ fn is_in(pigeon: u64, hole: u64, positive: bool) -> Lit {
 }
 
 /// A pigeon shares no hole with an earlier one.
-fn add_apart<'a>(alloc: Global, store: &mut ClauseStore<'a>, pigeon: u64, hole: u64) -> Result<(), Memory> {
+fn add_apart<'a>(
+    alloc: Global,
+    store: &mut ClauseStore<'a>,
+    pigeon: u64,
+    hole: u64,
+) -> Result<(), Memory> {
     for other in 0..pigeon {
         let lits = [is_in(pigeon, hole, false), is_in(other, hole, false)];
         add(alloc, store, lits.as_slice())?;
@@ -263,7 +282,9 @@ fn listed(alloc: Global, vars: u64, below: u64) -> Result<Vec<u64>, Memory>
 fn is_right<'a>(store: &ClauseStore<'a>, answer: &Answer, budget: usize) -> bool {
     match answer {
         Answer::Model(values) => satisfies(store, values_of(values.as_slice())),
-        Answer::Refuted(lines) => ends_empty(lines) && all_follow(store, lines) && !has_model(store),
+        Answer::Refuted(lines) => ends_empty(lines)
+            && all_follow(store, lines)
+            && !has_model(store),
         Answer::Spent(lines) => lines.len() == budget && all_follow(store, lines),
     }
 }
@@ -302,10 +323,12 @@ fn pigeons_find_no_holes(rt: HostRuntime) -> Result<(), Fail> {
 fn a_small_budget_is_spent(rt: HostRuntime) -> Result<(), Fail> {
     let arena = Bump::new(rt.alloc());
     let mut store = ClauseStore::new(rt.alloc(), &arena);
-    add_random(rt.alloc(), &mut store, 7, 100)?;
+    add_pigeons(rt.alloc(), &mut store)?;
     let solver = Solver::new(rt.alloc(), &store, &[])?;
-    match solver.solve(rt.alloc(), 2)? {
-        Answer::Spent(lines) => assert_eq!(rt; lines.len(), 2),
+    let answer = solver.solve(rt.alloc(), 2)?;
+    assert!(rt; is_right(&store, &answer, 2));
+    match answer {
+        Answer::Spent(_) => {}
         Answer::Refuted(_) => assert!(rt; false),
         Answer::Model(_) => assert!(rt; false),
     }

@@ -1,12 +1,6 @@
-use Rattle.std.proofs.Common.{◌≡◌, ℕ, ◌+◌, ◌-◌, ◌++◌, List, [], ◌∷◌, Bool, length, slice_get, Some, None, sym, refl, ap, subst, ◌∙◌, arith}
-use Rattle.std.proofs.lemmas.Option.{same_Some}
-use Rattle.clause_store.specs.declared.lit.Lit.{Lit}
-use Rattle.clause_store.specs.Literals.{opposite}
-use Rattle.sat_trail.specs.declared.step.Step.{Step}
-use Rattle.sat_core.specs.declared.analysis.Jump.{Jump}
-use Rattle.sat_core.specs.Analyses.{IsLeft, IsKey, IsCut, IsUnmarked, IsGathered}
-use Rattle.sat_core.proofs.Leaving.{left-start, left-expand, left-key}
-use Rattle.sat_core.proofs.Gathering.{gathered-start, gathered-skip, gathered-expand, gathered-keep, gathered-learned, top-within}
+use Rattle.std.proofs.Common.{◌≡◌, ℕ, ◌+◌, ◌-◌, List, [], Bool, sym, subst, ◌∙◌, arith}
+use Rattle.sat_core.specs.Analyses.{IsLeft, IsKey}
+use Rattle.sat_core.proofs.Leaving.{left-expand, left-key}
 use Rattle.sat_core.proofs.analysis.find_cut.Goals as goal
 
 pub loop-at-preserved : goal.loop-at-preserved

@@ -1,12 +1,10 @@
-use Rattle.std.proofs.Common.{◌≡◌, ℕ, ◌+◌, ◌-◌, ◌++◌, List, [], ◌∷◌, Bool, length, slice_get, Some, None, sym, refl, ap, subst, ◌∙◌, arith}
+use Rattle.std.proofs.Common.{◌≡◌, ℕ, ◌++◌, List, [], ◌∷◌, None, sym, ap, subst, ◌∙◌, arith}
 use Rattle.std.proofs.lemmas.Option.{same_Some}
 use Rattle.clause_store.specs.declared.lit.Lit.{Lit}
 use Rattle.clause_store.specs.Literals.{opposite}
 use Rattle.sat_trail.specs.declared.step.Step.{Step}
-use Rattle.sat_core.specs.declared.analysis.Jump.{Jump}
-use Rattle.sat_core.specs.Analyses.{IsLeft, IsKey, IsCut, IsUnmarked, IsGathered}
-use Rattle.sat_core.proofs.Leaving.{left-start, left-expand, left-key}
-use Rattle.sat_core.proofs.Gathering.{gathered-start, gathered-skip, gathered-expand, gathered-keep, gathered-learned, top-within}
+use Rattle.sat_core.specs.Analyses.{IsGathered}
+use Rattle.sat_core.proofs.Gathering.{gathered-start, gathered-learned, top-within}
 use Rattle.sat_core.proofs.analysis.gather.Goals as goal
 
 pub loop-at-init : goal.loop-at-init

@@ -1,10 +1,6 @@
-use Rattle.std.proofs.Common.{◌≡◌, ◌∙◌, ◌<◌, ◌≤◌, ◌+◌, ℕ, List, [], ◌∷◌, ◌++◌, Option, Bool, Some, None, length, slice_get, subst, sym, ap, refl, arith, rules, inl, inr}
-use Rattle.std.specs.Prelude.{All, IsSome, Contains}
-use Rattle.clause_store.specs.declared.lit.Lit.{Lit}
+use Rattle.std.proofs.Common.{◌∙◌, subst, sym, ap}
 use Rattle.clause_store.specs.Formula.{IsKnown}
-use Rattle.clause_store.specs.UnitRule.{Follows}
-use Rattle.sat_trail.specs.declared.step.Step.{Step}
-use Rattle.sat_trail.specs.Engines.{State, CanOpen, CanUnit, IsSettled, IsLoaded, with_line, with_unit, with_decision}
+use Rattle.sat_trail.specs.Engines.{State, CanOpen, with_line}
 use Rattle.sat_core.proofs.Answering as answering
 use Rattle.sat_core.proofs.backjump.start_again.Goals as goal
 

@@ -1,7 +1,3 @@
-use Rattle.std.proofs.Common.{◌≡◌, ◌∙◌, ◌<◌, ◌≤◌, ◌+◌, ℕ, List, [], ◌∷◌, ◌++◌, Option, Bool, Some, None, length, slice_get, subst, sym, ap, refl, arith, rules, inl, inr}
-use Rattle.clause_store.specs.declared.lit.Lit.{Lit}
-use Rattle.sat_trail.specs.Engines.{State, IsSettled, with_decision}
-use Rattle.sat_core.specs.Searching.{IsDescent, IsDescended, IsBottom, IsPicked}
 use Rattle.sat_core.proofs.Answering as answering
 use Rattle.sat_core.proofs.descent.decide.Goals as goal
 

@@ -1,4 +1,4 @@
-use Rattle.std.proofs.Common.{◌≤◌, length}
+use Rattle.std.proofs.Common.{◌≤◌}
 use Rattle.sat_core.specs.Marks.{NoneMarked}
 use Rattle.sat_core.proofs.marks.quiet_below.Given as goal
 

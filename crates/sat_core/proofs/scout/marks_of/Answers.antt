@@ -1,4 +1,4 @@
-use Rattle.std.proofs.Common.{◌∙◌, true, length, slice_index_or, arith}
+use Rattle.std.proofs.Common.{◌∙◌, true, slice_index_or, arith}
 use Rattle.std.proofs.lemmas.List.{length-set}
 use Rattle.sat_core.proofs.Turning.{marks-next}
 use Rattle.sat_core.proofs.scout.marks_of.Goals as goal

@@ -1,5 +1,4 @@
-use Rattle.std.proofs.Common.{◌≡◌, ◌∙◌, ◌<◌, ◌≤◌, ◌+◌, ℕ, List, [], ◌∷◌, ◌++◌, Option, Bool, Some, None, length, subst, sym, ap, refl, arith, rules}
-use Rattle.clause_store.specs.declared.lit.Lit.{Lit}
+use Rattle.std.proofs.Common.{arith}
 use Rattle.sat_core.proofs.Answering as answering
 use Rattle.sat_core.proofs.Turning as turning
 use Rattle.sat_core.proofs.search.search.Goals as goal
@@ -45,14 +44,15 @@ returns-then-count-budget c =
     c.as_slice-in-Some-clash.ensures.value c.in_ok-unpacked.ensures c.as_slice.ensures.value) (omega arith)
 
 pub returns-then-count-pause : goal.returns-then-count-pause
-returns-then-count-pause c =
-    (turning.next-so_far c.args.clauses.now c.args.first.now c.args.budget c.loop-clash.engine c.args.is_first.now c.loop-clash.lines c.push.new.self c.in-Some-2.learned.line.items c.in-Some-2.learned.key c.in-Some-2.learned.second
-    c.in-Some-2.learned.to c.loop-clash.invariant.so_far c.loop-clash.invariant.descent (turning.learned-some c.loop-clash.engine c.args.is_first.now c.in_ok-learned.field-0 c.in-Some-2.learned c.in_ok-learned.ensures c.in-Some-2.is) c.requires.marks c.len-steps.ensures.walk
-    (turning.made c.loop-clash.lines c.push.new.self c.as_slice-in-Some-clash.result.now c.in_ok-unpacked.unpacked.items c.as_slice.result.now c.in-Some-2.learned.line.items c.in_ok-push.ensures
-    c.as_slice-in-Some-clash.ensures.value c.in_ok-unpacked.ensures c.as_slice.ensures.value) (omega arith),
-    turning.more-lines c.args.lines c.loop-clash.lines c.push.new.self c.in-Some-2.learned.line.items c.loop-clash.invariant.grown
-    (turning.made c.loop-clash.lines c.push.new.self c.as_slice-in-Some-clash.result.now c.in_ok-unpacked.unpacked.items c.as_slice.result.now c.in-Some-2.learned.line.items c.in_ok-push.ensures
-    c.as_slice-in-Some-clash.ensures.value c.in_ok-unpacked.ensures c.as_slice.ensures.value))
+returns-then-count-pause c = (
+  turning.next-so_far c.args.clauses.now c.args.first.now c.args.budget c.loop-clash.engine c.args.is_first.now c.loop-clash.lines c.push.new.self c.in-Some-2.learned.line.items c.in-Some-2.learned.key c.in-Some-2.learned.second
+      c.in-Some-2.learned.to c.loop-clash.invariant.so_far c.loop-clash.invariant.descent (turning.learned-some c.loop-clash.engine c.args.is_first.now c.in_ok-learned.field-0 c.in-Some-2.learned c.in_ok-learned.ensures c.in-Some-2.is) c.requires.marks c.len-steps.ensures.walk
+      (turning.made c.loop-clash.lines c.push.new.self c.as_slice-in-Some-clash.result.now c.in_ok-unpacked.unpacked.items c.as_slice.result.now c.in-Some-2.learned.line.items c.in_ok-push.ensures
+      c.as_slice-in-Some-clash.ensures.value c.in_ok-unpacked.ensures c.as_slice.ensures.value) (omega arith),
+  turning.more-lines c.args.lines c.loop-clash.lines c.push.new.self c.in-Some-2.learned.line.items c.loop-clash.invariant.grown
+      (turning.made c.loop-clash.lines c.push.new.self c.as_slice-in-Some-clash.result.now c.in_ok-unpacked.unpacked.items c.as_slice.result.now c.in-Some-2.learned.line.items c.in_ok-push.ensures
+      c.as_slice-in-Some-clash.ensures.value c.in_ok-unpacked.ensures c.as_slice.ensures.value),
+)
 
 pub go_back-requires : goal.go_back-requires
 go_back-requires c =
@@ -81,15 +81,18 @@ pub loop-clash-preserved : goal.loop-clash-preserved
 loop-clash-preserved c =
     record {
       so_far = turning.next-so_far c.args.clauses.now c.args.first.now c.args.budget c.loop-clash.engine c.args.is_first.now c.loop-clash.lines c.push.new.self c.in-Some-2.learned.line.items c.in-Some-2.learned.key c.in-Some-2.learned.second
-    c.in-Some-2.learned.to c.loop-clash.invariant.so_far c.loop-clash.invariant.descent (turning.learned-some c.loop-clash.engine c.args.is_first.now c.in_ok-learned.field-0 c.in-Some-2.learned c.in_ok-learned.ensures c.in-Some-2.is) c.requires.marks c.len-steps.ensures.walk
-    (turning.made c.loop-clash.lines c.push.new.self c.as_slice-in-Some-clash.result.now c.in_ok-unpacked.unpacked.items c.as_slice.result.now c.in-Some-2.learned.line.items c.in_ok-push.ensures
-    c.as_slice-in-Some-clash.ensures.value c.in_ok-unpacked.ensures c.as_slice.ensures.value) (omega arith);
+          c.in-Some-2.learned.to c.loop-clash.invariant.so_far c.loop-clash.invariant.descent (turning.learned-some c.loop-clash.engine c.args.is_first.now c.in_ok-learned.field-0 c.in-Some-2.learned c.in_ok-learned.ensures c.in-Some-2.is) c.requires.marks c.len-steps.ensures.walk
+          (turning.made c.loop-clash.lines c.push.new.self c.as_slice-in-Some-clash.result.now c.in_ok-unpacked.unpacked.items c.as_slice.result.now c.in-Some-2.learned.line.items c.in_ok-push.ensures
+          c.as_slice-in-Some-clash.ensures.value c.in_ok-unpacked.ensures c.as_slice.ensures.value) (omega arith);
       descent = c.in_ok-next.ensures.descent;
       bottom = c.in_ok-next.ensures.bottom;
       grown =
-          omega (arith, turning.more-lines c.args.lines c.loop-clash.lines c.push.new.self c.in-Some-2.learned.line.items c.loop-clash.invariant.grown
-          (turning.made c.loop-clash.lines c.push.new.self c.as_slice-in-Some-clash.result.now c.in_ok-unpacked.unpacked.items c.as_slice.result.now c.in-Some-2.learned.line.items c.in_ok-push.ensures
-    c.as_slice-in-Some-clash.ensures.value c.in_ok-unpacked.ensures c.as_slice.ensures.value));
+          omega (
+            arith,
+            turning.more-lines c.args.lines c.loop-clash.lines c.push.new.self c.in-Some-2.learned.line.items c.loop-clash.invariant.grown
+                (turning.made c.loop-clash.lines c.push.new.self c.as_slice-in-Some-clash.result.now c.in_ok-unpacked.unpacked.items c.as_slice.result.now c.in-Some-2.learned.line.items c.in_ok-push.ensures
+                c.as_slice-in-Some-clash.ensures.value c.in_ok-unpacked.ensures c.as_slice.ensures.value),
+          );
     }
 
 pub returns : goal.returns

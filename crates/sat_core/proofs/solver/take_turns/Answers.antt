@@ -1,7 +1,5 @@
-use Rattle.std.proofs.Common.{◌≡◌, Bool, List, length, subst, sym}
-use Rattle.clause_store.specs.Literals.{Satisfies}
+use Rattle.std.proofs.Common.{Bool, List, subst, sym}
 use Rattle.sat_core.specs.declared.search.Turn.{Turn}
-use Rattle.sat_core.specs.Lines.{value_at}
 use Rattle.sat_core.specs.Searching.{IsTurn, IsFoundBy}
 use Rattle.sat_core.proofs.Turning as turning
 use Rattle.sat_core.proofs.solver.take_turns.Goals as goal

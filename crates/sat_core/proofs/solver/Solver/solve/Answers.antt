@@ -1,4 +1,4 @@
-use Rattle.std.proofs.Common.{ℕ, List, subst, sym}
+use Rattle.std.proofs.Common.{ℕ, List, subst}
 use Rattle.std.specs.Prelude.{IfOk}
 use Rattle.sat_core.specs.Searching.{IsAnswer, Task}
 use Rattle.sat_core.proofs.solver.Solver.solve.Goals as goal
