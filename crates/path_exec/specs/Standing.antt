@@ -1,0 +1,35 @@
+-- Terms that stand for the registers of a thread.
+use Rattle.std.specs.Prelude.{◌≡◌, ℕ, ◌<◌, List, length, slice_index_or, Option, Some, None}
+use Rattle.bv_terms.specs.declared.node.TermId.{TermId}
+use Rattle.bv_terms.specs.Shapes.{Shape}
+use Rattle.bv_terms.specs.Values.{Assignment, value_at}
+use Rattle.bv_terms.specs.Variables.{Occurs}
+use Rattle.rv_model.specs.declared.state.Local.{Local}
+use Rattle.rv_model.specs.Thread.{register, with_register}
+use Rattle.step_terms.specs.Made.{IsTerm}
+
+-- the term of a register
+abbrev pub term_of : List TermId → ℕ → ℕ
+term_of registers number = (slice_index_or registers number (record { number = 0 })).number
+
+-- 32 words
+pub record AreRegisters (nodes : List Shape) (registers : List TermId) : Type 0 where
+  pub all : length registers ≡ 32
+  pub words : (number : ℕ) → number < 32 → IsTerm nodes 32 (term_of registers number)
+
+-- Under this assignment each register's term has the value of the register, and each register holds a word.
+pub record StandFor (w : Assignment) (nodes : List Shape) (registers : List TermId) (local : Local) : Type 0 where
+  pub all : length local.registers ≡ 32
+  pub values : (number : ℕ) → number < 32 → value_at w nodes (term_of registers number) ≡ register local number
+
+-- the variable occurs in a register's term
+pub record OccursInRegisters (nodes : List Shape) (registers : List TermId) (width variable : ℕ) : Type 0 where
+  pub number : ℕ
+  pub below : number < 32
+  pub occurs : Occurs nodes width variable (term_of registers number)
+
+-- An instruction that writes this value to a register: the terms after it stand for the registers after the write, and have no
+-- variable that those before it hadn't.
+pub record Writes (old new : List Shape) (before after : List TermId) (rd : ℕ) (written : Local → ℕ) : Type 0 where
+  pub stands : (w : Assignment) (local : Local) → StandFor w old before local → StandFor w new after (with_register local rd (written local))
+  pub variables : (width variable : ℕ) → OccursInRegisters new after width variable → OccursInRegisters old before width variable
