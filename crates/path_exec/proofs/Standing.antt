@@ -27,7 +27,7 @@ stand_stays w old new registers local grows are stand = record {
 }
 
 -- a register after a write
-term_written : (registers : List TermId) (rd number : ℕ) (term : TermId) (d : TermId) → rd < length registers → (test : Bool) → nat_eq number rd ≡ test
+pub term_written : (registers : List TermId) (rd number : ℕ) (term : TermId) (d : TermId) → rd < length registers → (test : Bool) → nat_eq number rd ≡ test
     → (slice_index_or (slice_set registers rd term) number d).number ≡ cond test term.number (slice_index_or registers number d).number
 term_written registers rd number term d inside true e =
     let same = eqb-true number rd e in
@@ -46,12 +46,15 @@ stand_written w old new registers local rd v id grows are stand inside is = by_z
   where
     zero_term : TermId
     zero_term = record { number = 0 }
+
     stays_so : StandFor w new registers local
     stays_so = stand_stays w old new registers local grows are stand
+
     at_register : (number : ℕ) → number < 32 → nat_eq rd 0 ≡ false → (test : Bool) → nat_eq number rd ≡ test
         → value_at w new (cond test id.number (term_of registers number)) ≡ cond (nat_eq number 0) 0 (cond test v (slice_index local.registers number))
     at_register number h other true e = is ∙ sym (ap (λ n. cond (nat_eq n 0) 0 v) (eqb-true number rd e) ∙ ap (λ t. cond t 0 v) other)
     at_register number h other false e = stays_so.values number h
+
     by_zero : (test : Bool) → nat_eq rd 0 ≡ test → StandFor w new (cond test registers (slice_set registers rd id)) (cond test local (record local { registers = slice_set local.registers rd v }))
     by_zero true e = stays_so
     by_zero false e = record {
@@ -68,9 +71,11 @@ registers_written new registers rd id are is inside = by_zero (nat_eq rd 0)
   where
     zero_term : TermId
     zero_term = record { number = 0 }
+
     at_register : (number : ℕ) → number < 32 → (test : Bool) → IsTerm new 32 (cond test id.number (term_of registers number))
     at_register number h true = is
     at_register number h false = are.words number h
+
     by_zero : (test : Bool) → AreRegisters new (cond test registers (slice_set registers rd id))
     by_zero true = are
     by_zero false = record {
@@ -86,11 +91,14 @@ variables_written old new registers rd id grows are inside from width variable t
   where
     zero_term : TermId
     zero_term = record { number = 0 }
+
     older : (number : ℕ) → number < 32 → Occurs new width variable (term_of registers number) → OccursInRegisters old registers width variable
     older number h occurs = record { number = number; below = h; occurs = grows.variables width variable (term_of registers number) (are.words number h).inside occurs }
+
     at_register : (number : ℕ) → number < 32 → (test : Bool) → Occurs new width variable (cond test id.number (term_of registers number)) → OccursInRegisters old registers width variable
     at_register number h true occurs = from width variable occurs
     at_register number h false occurs = older number h occurs
+
     by_zero : (test : Bool) → OccursInRegisters new (cond test registers (slice_set registers rd id)) width variable → OccursInRegisters old registers width variable
     by_zero true found = older found.number found.below found.occurs
     by_zero false found =
@@ -105,10 +113,10 @@ writes_of_two old new registers rd rs1 rs2 id g grows are inside in1 in2 made = 
   stands = λ w local stand. stand_written w old new registers local rd (g (register local rs1) (register local rs2)) id grows are stand inside
       (made.value w ∙ ap (λ v. g v (value_at w old (term_of registers rs2))) (stand.values rs1 in1) ∙ ap (λ v. g (register local rs1) v) (stand.values rs2 in2));
   variables = variables_written old new registers rd id grows are inside (λ width variable there. elim (made.occurs width variable there) [
-      | inl first ↦ record { number = rs1; below = in1; occurs = first }
-      | inr (inl second) ↦ record { number = rs2; below = in2; occurs = second }
-      | inr (inr none) ↦ absurd none
-    ]);
+    | inl first ↦ record { number = rs1; below = in1; occurs = first }
+    | inr (inl second) ↦ record { number = rs2; below = in2; occurs = second }
+    | inr (inr none) ↦ absurd none
+  ]);
 }
 
 pub writes_of_one : (old new : List Shape) (registers : List TermId) (rd rs1 : ℕ) (id : TermId) (g : ℕ → ℕ) → Grows old new → AreRegisters old registers → rd < 32 → rs1 < 32
@@ -116,9 +124,9 @@ pub writes_of_one : (old new : List Shape) (registers : List TermId) (rd rs1 : �
 writes_of_one old new registers rd rs1 id g grows are inside in1 made = record {
   stands = λ w local stand. stand_written w old new registers local rd (g (register local rs1)) id grows are stand inside (made.value w ∙ ap g (stand.values rs1 in1));
   variables = variables_written old new registers rd id grows are inside (λ width variable there. elim (made.occurs width variable there) [
-      | inl first ↦ record { number = rs1; below = in1; occurs = first }
-      | inr none ↦ absurd none
-    ]);
+    | inl first ↦ record { number = rs1; below = in1; occurs = first }
+    | inr none ↦ absurd none
+  ]);
 }
 
 pub writes_number : (old new : List Shape) (registers : List TermId) (rd value : ℕ) (id : TermId) → Grows old new → AreRegisters old registers → rd < 32

@@ -1,11 +1,11 @@
 -- Terms that stand for the registers of a thread.
-use Rattle.std.specs.Prelude.{◌≡◌, ℕ, ◌<◌, List, length, slice_index_or, Option, Some, None}
+use Rattle.std.specs.Prelude.{◌≡◌, ◌↔◌, ◌⊎◌, ℕ, ◌<◌, List, length, slice_index_or}
 use Rattle.bv_terms.specs.declared.node.TermId.{TermId}
 use Rattle.bv_terms.specs.Shapes.{Shape}
 use Rattle.bv_terms.specs.Values.{Assignment, value_at}
 use Rattle.bv_terms.specs.Variables.{Occurs}
 use Rattle.rv_model.specs.declared.state.Local.{Local}
-use Rattle.rv_model.specs.Thread.{register, with_register}
+use Rattle.rv_model.specs.Thread.{register, with_register, first_local, spawned_local}
 use Rattle.step_terms.specs.Made.{IsTerm}
 
 -- the term of a register
@@ -33,3 +33,23 @@ pub record OccursInRegisters (nodes : List Shape) (registers : List TermId) (wid
 pub record Writes (old new : List Shape) (before after : List TermId) (rd : ℕ) (written : Local → ℕ) : Type 0 where
   pub stands : (w : Assignment) (local : Local) → StandFor w old before local → StandFor w new after (with_register local rd (written local))
   pub variables : (width variable : ℕ) → OccursInRegisters new after width variable → OccursInRegisters old before width variable
+
+-- A constraint on the registers before a step: a term of one bit, which is 1 exactly where a property holds of the thread, and
+-- has no variable but those of the registers.
+pub record Says (old new : List Shape) (registers : List TermId) (id : ℕ) (P : Local → Type 0) : Type 0 where
+  pub bit : IsTerm new 1 id
+  pub holds : (w : Assignment) (local : Local) → StandFor w old registers local → (value_at w new id ≡ 1) ↔ P local
+  pub variables : (width variable : ℕ) → Occurs new width variable id → OccursInRegisters old registers width variable
+
+-- the terms stand for thread 0 before its first step, and have no variable
+pub record BeginsAs (nodes : List Shape) (registers : List TermId) : Type 0 where
+  pub words : AreRegisters nodes registers
+  pub stands : (w : Assignment) (entry : ℕ) → StandFor w nodes registers (first_local entry)
+  pub variables : (width variable : ℕ) → OccursInRegisters nodes registers width variable → ⊥
+
+-- the terms stand for a spawned thread before its first step, and have no variable but those of its spawner's gp and of its
+-- argument
+pub record SpawnedAs (old new : List Shape) (thread gp argument : ℕ) (registers : List TermId) : Type 0 where
+  pub words : AreRegisters new registers
+  pub stands : (w : Assignment) (entry : ℕ) → StandFor w new registers (spawned_local thread entry (value_at w old gp) (value_at w old argument))
+  pub variables : (width variable : ℕ) → OccursInRegisters new registers width variable → Occurs old width variable gp ⊎ Occurs old width variable argument

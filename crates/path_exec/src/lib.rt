@@ -2,6 +2,9 @@
 #![tactic(auto)]
 
 pub mod compute;
+pub mod constraints;
 mod registers;
+pub mod start;
+pub mod variables;
 
 pub use odr_list::memory::Memory;

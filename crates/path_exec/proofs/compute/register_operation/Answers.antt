@@ -25,7 +25,7 @@ returns-clause-writes g c =
     let x = term_of before c.args.rs1 in
     let y = term_of before c.args.rs2 in
     let made = subst (λ n. IsMade old new (x ∷ n ∷ []) 32 (λ w. alu_of c.args.op (value_at w old x) (value_at w old n)) value.number) c.read-right.ensures
-        (subst (λ n. IsMade old new (n ∷ c.read-right.result.number ∷ []) 32 (λ w. alu_of c.args.op (value_at w old n) (value_at w old c.read-right.result.number)) value.number) c.read-left.ensures c.in_ok-value.ensures.made) in
+    (subst (λ n. IsMade old new (n ∷ c.read-right.result.number ∷ []) 32 (λ w. alu_of c.args.op (value_at w old n) (value_at w old c.read-right.result.number)) value.number) c.read-left.ensures c.in_ok-value.ensures.made) in
     subst (λ (after : List TermId). Writes old new before after c.args.rd (λ local. alu_of c.args.op (register local c.args.rs1) (register local c.args.rs2))) (sym c.write.ensures)
     (writes_of_two old new before c.args.rd c.args.rs1 c.args.rs2 value (λ u v. alu_of c.args.op u v) c.alu.ensures.grows c.requires.registers c.requires.rd c.requires.rs1 c.requires.rs2 made)
 
