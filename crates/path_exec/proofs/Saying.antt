@@ -1,17 +1,15 @@
 -- Constraints on registers.
-use Rattle.std.proofs.Common.{◌≡◌, ℕ, ◌-◌, ◌<◌, Bool, true, false, cond, List, [], ◌∷◌, refl, sym, ◌∙◌, ap, subst, inl, inr, nat_eq, arith}
-use Rattle.std.specs.Prelude.{◌⊎◌, ◌↔◌}
+use Rattle.std.proofs.Common.{◌≡◌, ℕ, ◌-◌, ◌<◌, Bool, true, false, cond, List, [], ◌∷◌, refl, sym, ◌∙◌, ap, inl, inr, nat_eq, arith}
+use Rattle.std.specs.Prelude.{◌↔◌}
 use Rattle.std.proofs.lemmas.Bool.{eqb-true, false≢true}
 use Rattle.std.proofs.lemmas.Bool.Decides.{nat_tests}
 use Rattle.bv_terms.specs.declared.node.TermId.{TermId}
 use Rattle.bv_terms.specs.BitVectors.{bit_of}
 use Rattle.bv_terms.specs.Shapes.{Shape}
-use Rattle.bv_terms.specs.Values.{Assignment, value_at}
-use Rattle.bv_terms.specs.Variables.{Occurs}
-use Rattle.rv_model.specs.declared.state.Local.{Local}
+use Rattle.bv_terms.specs.Values.{value_at}
 use Rattle.rv_model.specs.Thread.{register}
 use Rattle.step_terms.specs.Made.{IsMade}
-use Rattle.path_exec.specs.Standing.{OccursInRegisters, Says, StandFor, term_of}
+use Rattle.path_exec.specs.Standing.{Says, term_of}
 
 -- a bit that is set, or not
 pub is_set : (test : Bool) → (bit_of test ≡ 1) ↔ (test ≡ true)

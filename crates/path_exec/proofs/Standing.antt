@@ -1,5 +1,5 @@
 -- Terms that stand for registers, after a write and in a pool that grew.
-use Rattle.std.proofs.Common.{◌≡◌, ℕ, zero, suc, ◌<◌, Bool, true, false, cond, List, [], ◌∷◌, length, refl, sym, ◌∙◌, ap, subst, inl, inr, nat_eq, arith}
+use Rattle.std.proofs.Common.{◌≡◌, ℕ, ◌<◌, Bool, true, false, cond, List, [], ◌∷◌, length, refl, sym, ◌∙◌, ap, subst, inl, inr, nat_eq, arith}
 use Rattle.std.specs.Prelude.{◌⊎◌, slice_index, slice_index_or, slice_set}
 use Rattle.std.proofs.lemmas.Bool.{eqb-true, eqb-false}
 use Rattle.std.proofs.lemmas.List.{get_or-set_same, get_or-set_other, length-set}
@@ -10,8 +10,8 @@ use Rattle.bv_terms.specs.Variables.{Occurs}
 use Rattle.rv_model.specs.declared.state.Local.{Local}
 use Rattle.rv_model.specs.Thread.{register, with_register}
 use Rattle.step_terms.specs.Made.{Grows, IsMade, IsTerm}
-use Rattle.step_terms.proofs.Making.{stays}
-use Rattle.path_exec.specs.Standing.{AreRegisters, OccursInRegisters, StandFor, Writes, term_of}
+use Rattle.step_terms.proofs.Making.{grows_same, stays}
+use Rattle.path_exec.specs.Standing.{AreRegisters, OccursInRegisters, Puts, StandFor, Writes, term_of}
 
 -- the registers after a write
 abbrev pub written : List TermId → ℕ → TermId → List TermId
@@ -134,4 +134,30 @@ pub writes_number : (old new : List Shape) (registers : List TermId) (rd value :
 writes_number old new registers rd value id grows are inside made = record {
   stands = λ w local stand. stand_written w old new registers local rd value id grows are stand inside (made.value w);
   variables = variables_written old new registers rd id grows are inside (λ width variable there. absurd (made.occurs width variable there));
+}
+
+-- the variables of registers after a write, from those of the written term and of the registers before
+pub any_written : (new : List Shape) (registers : List TermId) (rd : ℕ) (id : TermId) (width variable : ℕ) (P : Type 0) → length registers ≡ 32 → rd < 32
+    → (Occurs new width variable id.number → P) → (OccursInRegisters new registers width variable → P) → OccursInRegisters new (written registers rd id) width variable → P
+any_written new registers rd id width variable P all inside of_term of_register there = by_zero (nat_eq rd 0) there
+  where
+    zero_term : TermId
+    zero_term = record { number = 0 }
+
+    at_register : (number : ℕ) → number < 32 → (test : Bool) → Occurs new width variable (cond test id.number (term_of registers number)) → P
+    at_register number h true occurs = of_term occurs
+    at_register number h false occurs = of_register (record { number = number; below = h; occurs = occurs })
+
+    by_zero : (test : Bool) → OccursInRegisters new (cond test registers (slice_set registers rd id)) width variable → P
+    by_zero true found = of_register found
+    by_zero false found =
+        at_register found.number found.below (nat_eq found.number rd)
+        (subst (λ n. Occurs new width variable n) (term_written registers rd found.number id zero_term (omega (arith, inside, all)) (nat_eq found.number rd) refl) found.occurs)
+
+-- a register is written with a term that the pool has
+pub puts : (nodes : List Shape) (registers : List TermId) (rd : ℕ) (id : TermId) → AreRegisters nodes registers → rd < 32 → Puts nodes registers (written registers rd id) rd id.number
+puts nodes registers rd id are inside = record {
+  stands = λ w local stand. stand_written w nodes nodes registers local rd (value_at w nodes id.number) id (grows_same nodes) are stand inside refl;
+  variables = λ width variable there.
+      any_written nodes registers rd id width variable (OccursInRegisters nodes registers width variable ⊎ Occurs nodes width variable id.number) are.all inside (λ o. inr o) (λ o. inl o) there;
 }

@@ -1,16 +1,16 @@
 -- Registers before a thread's first step.
-use Rattle.std.proofs.Common.{◌≡◌, ℕ, zero, suc, ◌<◌, Bool, true, false, cond, List, [], ◌∷◌, length, replicate, refl, sym, ◌∙◌, ap, subst, inl, inr, nat_eq, arith}
-use Rattle.std.specs.Prelude.{◌⊎◌, slice_index, slice_index_or, slice_set}
+use Rattle.std.proofs.Common.{◌≡◌, ℕ, zero, suc, ◌<◌, Bool, true, false, cond, List, [], replicate, refl, sym, ◌∙◌, ap, subst, inl, inr, nat_eq, arith}
+use Rattle.std.specs.Prelude.{◌⊎◌, slice_index, slice_index_or}
 use Rattle.bv_terms.specs.declared.node.TermId.{TermId}
 use Rattle.bv_terms.specs.Shapes.{Shape}
 use Rattle.bv_terms.specs.Values.{Assignment, value_at}
 use Rattle.bv_terms.specs.Variables.{Occurs}
 use Rattle.rv_model.specs.declared.state.Local.{Local}
-use Rattle.rv_model.specs.Thread.{first_local, spawned_local, stack_top, with_register, zero_registers}
+use Rattle.rv_model.specs.Thread.{stack_top, with_register, zero_registers}
 use Rattle.step_terms.specs.Made.{Grows, IsMade, IsTerm}
-use Rattle.path_exec.specs.Standing.{AreRegisters, BeginsAs, OccursInRegisters, SpawnedAs, StandFor, term_of}
+use Rattle.path_exec.specs.Standing.{AreRegisters, BeginsAs, OccursInRegisters, SpawnedAs, StandFor}
 use Rattle.step_terms.proofs.Making.{grows_on, grows_same, later, stays}
-use Rattle.path_exec.proofs.Standing.{registers_written, stand_written, term_written, written}
+use Rattle.path_exec.proofs.Standing.{any_written, registers_written, stand_written, written}
 
 each_zero : {A : Type 0} (count number : ℕ) (a d : A) → number < count → slice_index_or (replicate count a) number d ≡ a
 each_zero zero number a d h = absurd (omega (arith, h))
@@ -47,21 +47,6 @@ zeros_variables nodes z P from width variable there = from width variable (subst
 -- a constant has no variable
 none : (old new : List Shape) (value : ℕ) (id : ℕ) → IsMade old new [] 32 (λ w. value) id → (width variable : ℕ) → Occurs new width variable id → ⊥
 none old new value id made width variable there = made.occurs width variable there
-
--- the variables of registers after a write, from those of the written term and of the registers before
-any_written : (new : List Shape) (registers : List TermId) (rd : ℕ) (id : TermId) (width variable : ℕ) (P : Type 0) → length registers ≡ 32 → rd < 32
-    → (Occurs new width variable id.number → P) → (OccursInRegisters new registers width variable → P) → OccursInRegisters new (written registers rd id) width variable → P
-any_written new registers rd id width variable P all inside of_term of_register there = by_zero (nat_eq rd 0) there
-  where
-    at_register : (number : ℕ) → number < 32 → (test : Bool) → Occurs new width variable (cond test id.number (term_of registers number)) → P
-    at_register number h true occurs = of_term occurs
-    at_register number h false occurs = of_register (record { number = number; below = h; occurs = occurs })
-
-    by_zero : (test : Bool) → OccursInRegisters new (cond test registers (slice_set registers rd id)) width variable → P
-    by_zero true found = of_register found
-    by_zero false found =
-        at_register found.number found.below (nat_eq found.number rd)
-        (subst (λ n. Occurs new width variable n) (term_written registers rd found.number id zero_term (omega (arith, inside, all)) (nat_eq found.number rd) refl) found.occurs)
 
 pub begins : (one two new : List Shape) (z sp : TermId) → Grows one two → IsMade new one [] 32 (λ w. 0) z.number → IsMade one two [] 32 (λ w. stack_top 0) sp.number
     → BeginsAs two (written (replicate 32 z) 2 sp)

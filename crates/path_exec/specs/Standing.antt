@@ -34,6 +34,11 @@ pub record Writes (old new : List Shape) (before after : List TermId) (rd : ℕ)
   pub stands : (w : Assignment) (local : Local) → StandFor w old before local → StandFor w new after (with_register local rd (written local))
   pub variables : (width variable : ℕ) → OccursInRegisters new after width variable → OccursInRegisters old before width variable
 
+-- A register is written with a term of the pool, as what a load read or what a join hands on.
+pub record Puts (nodes : List Shape) (before after : List TermId) (rd id : ℕ) : Type 0 where
+  pub stands : (w : Assignment) (local : Local) → StandFor w nodes before local → StandFor w nodes after (with_register local rd (value_at w nodes id))
+  pub variables : (width variable : ℕ) → OccursInRegisters nodes after width variable → OccursInRegisters nodes before width variable ⊎ Occurs nodes width variable id
+
 -- A constraint on the registers before a step: a term of one bit, which is 1 exactly where a property holds of the thread, and
 -- has no variable but those of the registers.
 pub record Says (old new : List Shape) (registers : List TermId) (id : ℕ) (P : Local → Type 0) : Type 0 where

@@ -2,8 +2,8 @@
 ghost use Rattle.std.specs.Prelude.{◌≡◌, ◌+◌, ◌%◌, ◌^◌, ◌<◌, OnOk, OnErr};
 ghost use Rattle.rv_model.specs.Thread.{register, word_after};
 ghost use Rattle.rv_model.specs.Values.{alu_of, imm_of};
-ghost use Rattle.step_terms.specs.Made.{Grows};
-ghost use Rattle.path_exec.specs.Standing.{AreRegisters, Writes};
+ghost use Rattle.step_terms.specs.Made.{Grows, IsTerm};
+ghost use Rattle.path_exec.specs.Standing.{AreRegisters, Puts, Writes};
 
 use crate::registers::{read, write};
 use bv_rewrite::rewrite::Rewrite;
@@ -81,4 +81,15 @@ pub fn number(
     let value = word(pool, number)?;
     write(registers, rd, value);
     Ok(())
+}
+
+/// A term that stands for a register's value: what a load read, the outcome of a store-conditional, what a join hands on.
+pub fn put(pool: &TermPool<'_>, registers: &mut [TermId; 32], rd: u8, term: TermId)
+    requires registers { AreRegisters pool.now registers.old }
+    requires rd { rd < 32 }
+    requires term { IsTerm pool.now 32 term.number }
+    ensures puts { Puts pool.now registers.old registers.new rd term.number }
+    ensures registers { AreRegisters pool.now registers.new }
+{
+    write(registers, rd, term)
 }

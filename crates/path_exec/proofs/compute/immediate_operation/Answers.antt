@@ -1,7 +1,7 @@
-use Rattle.std.proofs.Common.{◌≡◌, ℕ, ◌∷◌, [], List, subst, sym, w32}
+use Rattle.std.proofs.Common.{◌∷◌, [], List, subst, sym, w32}
 use Rattle.std.proofs.lemmas.Int.{to_z-of_z}
 use Rattle.bv_terms.specs.declared.node.TermId.{TermId}
-use Rattle.bv_terms.specs.Values.{Assignment, value_at}
+use Rattle.bv_terms.specs.Values.{value_at}
 use Rattle.rv_model.specs.Thread.{register}
 use Rattle.rv_model.specs.Values.{imm_of}
 use Rattle.step_terms.specs.Made.{IsMade, IsTerm}

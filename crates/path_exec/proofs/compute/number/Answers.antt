@@ -1,4 +1,4 @@
-use Rattle.std.proofs.Common.{◌≡◌, ℕ, ◌∷◌, [], List, subst, sym}
+use Rattle.std.proofs.Common.{List, subst, sym}
 use Rattle.bv_terms.specs.declared.node.TermId.{TermId}
 use Rattle.path_exec.specs.Standing.{AreRegisters, Writes}
 use Rattle.path_exec.proofs.Standing.{registers_stay, registers_written, writes_number}

@@ -1,6 +1,6 @@
-use Rattle.std.proofs.Common.{◌≡◌, ℕ, ◌∷◌, [], List, subst, sym}
+use Rattle.std.proofs.Common.{◌∷◌, [], List, subst, sym}
 use Rattle.bv_terms.specs.declared.node.TermId.{TermId}
-use Rattle.bv_terms.specs.Values.{Assignment, value_at}
+use Rattle.bv_terms.specs.Values.{value_at}
 use Rattle.rv_model.specs.Thread.{register}
 use Rattle.rv_model.specs.Values.{alu_of}
 use Rattle.step_terms.specs.Made.{IsMade, IsTerm}

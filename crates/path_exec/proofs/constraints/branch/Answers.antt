@@ -1,7 +1,7 @@
-use Rattle.std.proofs.Common.{◌≡◌, ℕ, ◌-◌, ◌∷◌, [], cond, subst, sym}
+use Rattle.std.proofs.Common.{◌≡◌, ◌-◌, ◌∷◌, [], cond, subst, sym}
 use Rattle.std.proofs.lemmas.Result.{IfOk-weaker}
 use Rattle.bv_terms.specs.BitVectors.{bit_of}
-use Rattle.bv_terms.specs.Values.{Assignment, value_at}
+use Rattle.bv_terms.specs.Values.{value_at}
 use Rattle.rv_model.specs.Values.{taken_of}
 use Rattle.step_terms.specs.Made.{IsMade, IsTerm}
 use Rattle.step_terms.proofs.Making.{by_one}

@@ -1,9 +1,8 @@
-use Rattle.std.proofs.Common.{◌≡◌, ℕ, ◌∷◌, [], nat_eq, subst, sym}
+use Rattle.std.proofs.Common.{◌≡◌, ◌∷◌, [], nat_eq, subst, sym}
 use Rattle.std.proofs.lemmas.Result.{IfOk-weaker}
 use Rattle.bv_terms.specs.BitVectors.{bit_of}
-use Rattle.bv_terms.specs.Values.{Assignment, value_at}
+use Rattle.bv_terms.specs.Values.{value_at}
 use Rattle.step_terms.specs.Made.{IsMade, IsTerm}
-use Rattle.path_exec.specs.Standing.{term_of}
 use Rattle.path_exec.proofs.Saying.{is_number, says_of_one}
 use Rattle.path_exec.proofs.constraints.holds.Goals as goal
 

@@ -1,8 +1,8 @@
-use Rattle.std.proofs.Common.{◌≡◌, ℕ, ◌*◌, ◌/◌, ◌∷◌, [], nat_eq, subst, sym, w32}
+use Rattle.std.proofs.Common.{◌≡◌, ◌*◌, ◌/◌, ◌∷◌, [], nat_eq, subst, sym, w32}
 use Rattle.std.proofs.lemmas.Int.{to_z-of_z}
 use Rattle.std.proofs.lemmas.Result.{IfOk-weaker}
 use Rattle.bv_terms.specs.BitVectors.{bit_of}
-use Rattle.bv_terms.specs.Values.{Assignment, value_at}
+use Rattle.bv_terms.specs.Values.{value_at}
 use Rattle.rv_model.specs.Values.{plus_offset}
 use Rattle.step_terms.specs.Made.{IsMade, IsTerm}
 use Rattle.step_terms.proofs.Making.{by_one}

@@ -1,4 +1,4 @@
-use Rattle.std.proofs.Common.{◌≡◌, ◌∷◌, [], List, subst, sym}
+use Rattle.std.proofs.Common.{[], List, subst, sym}
 use Rattle.bv_terms.specs.declared.node.TermId.{TermId}
 use Rattle.step_terms.specs.Made.{IsMade}
 use Rattle.path_exec.specs.Standing.{BeginsAs}
