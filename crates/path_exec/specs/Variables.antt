@@ -1,7 +1,8 @@
 -- Which variables stand for what is given: one of 8 bits for each byte that a step may read, and one of one bit for the outcome
 -- of its store-conditional.
-use Rattle.std.specs.Prelude.{◌≡◌, ℕ, ◌+◌, ◌*◌, ◌^◌, ◌<◌, ◌⊎◌, List, Some, slice_get}
+use Rattle.std.specs.Prelude.{◌≡◌, ℕ, ◌+◌, ◌*◌, ◌^◌, ◌<◌, ◌⊎◌, List, Some, length, slice_get, slice_index_or}
 use Rattle.odr_log.specs.declared.log.Pos.{Pos}
+use Rattle.bv_terms.specs.declared.node.TermId.{TermId}
 use Rattle.bv_terms.specs.Shapes.{Shape, Var}
 use Rattle.bv_terms.specs.Values.{Assignment, value_at}
 use Rattle.step_terms.specs.Made.{IsTerm}
@@ -24,3 +25,7 @@ pub record IsVariable (nodes : List Shape) (bits number id : ℕ) : Type 0 where
   pub term : IsTerm nodes bits id
   pub node : slice_get nodes id ≡ Some (Var bits number)
   pub value : (w : Assignment) → value_at w nodes id ≡ w.value_of bits number
+
+-- the terms are the variables of the bytes of a step, in their order
+abbrev pub AreVariables : List Shape → Pos → List TermId → Type 0
+AreVariables nodes p ids = (index : ℕ) → index < length ids → IsVariable nodes 8 (byte_number p.thread p.step index) (slice_index_or ids index (record { number = 0 })).number
