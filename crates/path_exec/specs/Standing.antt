@@ -17,7 +17,7 @@ pub record AreRegisters (nodes : List Shape) (registers : List TermId) : Type 0 
   pub all : length registers ≡ 32
   pub words : (number : ℕ) → number < 32 → IsTerm nodes 32 (term_of registers number)
 
--- Under this assignment each register's term has the value of the register, and each register holds a word.
+-- Under this assignment each register's term has the value of the register, of which there are 32.
 pub record StandFor (w : Assignment) (nodes : List Shape) (registers : List TermId) (local : Local) : Type 0 where
   pub all : length local.registers ≡ 32
   pub values : (number : ℕ) → number < 32 → value_at w nodes (term_of registers number) ≡ register local number

@@ -1,6 +1,6 @@
 -- Which variables stand for what is given: one of 8 bits for each byte that a step may read, and one of one bit for the outcome
 -- of its store-conditional.
-use Rattle.std.specs.Prelude.{◌≡◌, ℕ, ◌+◌, ◌*◌, ◌^◌, ◌<◌, ◌⊎◌, List, Some, length, slice_get, slice_index_or}
+use Rattle.std.specs.Prelude.{◌≡◌, ℕ, ◌+◌, ◌*◌, ◌^◌, ◌<◌, List, Some, length, slice_get, slice_index_or}
 use Rattle.odr_log.specs.declared.log.Pos.{Pos}
 use Rattle.bv_terms.specs.declared.node.TermId.{TermId}
 use Rattle.bv_terms.specs.Shapes.{Shape, Var}
@@ -14,11 +14,6 @@ step_number thread step = thread * 2 ^ 18 + step
 -- the number of a byte of a step: an access has at most 2 ^ 8 bytes
 abbrev pub byte_number : ℕ → ℕ → ℕ → ℕ
 byte_number thread step index = step_number thread step * 2 ^ 8 + index
-
--- the variable is that of a byte or of the outcome of this step
-abbrev pub IsOf : Pos → (width number : ℕ) → Type 0
-IsOf p width number =
-    ((width ≡ 8) × (index : ℕ) × (index < 2 ^ 8) × (number ≡ byte_number p.thread p.step index)) ⊎ ((width ≡ 1) × (number ≡ step_number p.thread p.step))
 
 -- the term is the variable of this width and number
 pub record IsVariable (nodes : List Shape) (bits number id : ℕ) : Type 0 where

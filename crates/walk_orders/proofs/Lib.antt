@@ -10,3 +10,4 @@ pub mod RecordedOrder
 pub mod Test
 pub mod Decided
 pub mod Accesses
+pub mod ListsAgree

@@ -1,5 +1,5 @@
 -- Laws of orders of a log's steps, each the contract of a public function.
-use Rattle.std.specs.Prelude.{◌↔◌, ℕ, Bool, List}
+use Rattle.std.specs.Prelude.{◌≡◌, ◌↔◌, ℕ, Bool, List, ◌++◌}
 use Rattle.elf_image.specs.Layout.{Layout}
 use Rattle.odr_log.specs.declared.log.Log.{Log}
 use Rattle.odr_log.specs.declared.log.Pos.{Pos}
@@ -8,12 +8,28 @@ use Rattle.rv_model.specs.Walk.{Walk, IsWalk}
 use Rattle.rv_model.specs.Accesses.{accesses_of}
 use Rattle.rv_model.specs.CallsFit.{CallsFit}
 use Rattle.rv_model.specs.RecordedOrder.{Counted, RecordedOrder}
-use Rattle.guided_walk.specs.Orders.{In}
-use Rattle.guided_walk.specs.Ordered.{IsExit, Ordered}
+use Rattle.guided_walk.specs.Told.{told, IsPlace}
+use Rattle.guided_walk.specs.Guided.{Given, Visits, at}
+use Rattle.guided_walk.specs.Along.{walk_along, HoldsAlong, fault_places}
+use Rattle.guided_walk.specs.Orders.{In, Keeps, Lists}
+use Rattle.guided_walk.specs.Ordered.{ExitLast, IsExit, Ordered}
 use Rattle.guided_walk.specs.Law.{holds}
 use Rattle.guided_walk.specs.Woven.{Woven}
 use Rattle.walk_orders.specs.RecordedTest.{recorded_before}
 use Rattle.walk_orders.specs.Total.{AreCounted, IsTotal, Decides, ArePairs, ComesFrom}
+
+-- Along two lists of all counted steps that keep an ordered relation and have an exit last, with the fault behind them, the
+-- walk holds along both or neither, with the same visits.
+abbrev pub ListsAgree : Type 0
+ListsAgree = (image : Layout) (log : Log) (walk : Walk) (given : Given) (before : Pos → Pos → Bool) (steps others : List Pos)
+    (start other : Visits) → IsWalk image log walk → Ordered image log (holds before)
+    → Lists (Counted log) steps → Keeps (holds before) steps → ExitLast log steps
+    → Lists (Counted log) others → Keeps (holds before) others → ExitLast log others
+    → HoldsAlong image (told log walk) given (steps ++ fault_places log) start
+    → HoldsAlong image (told log walk) given (others ++ fault_places log) other
+    × ((p : Pos) → IsPlace (told log walk) p
+    → at (walk_along image (told log walk) given (steps ++ fault_places log) start) p
+    ≡ at (walk_along image (told log walk) given (others ++ fault_places log) other) p)
 
 -- Where the walk is defined and the calls fit, the recorded order is ordered.
 abbrev pub RecordedIsOrdered : Type 0

@@ -1,4 +1,10 @@
-ghost use Rattle.walk_orders.specs.Law.{RecordedIsOrdered, RecordedTest, TestIsOrdered, WeavingLaw, AccessesGoOn, WovenDecides, LoggedIsWoven};
+ghost use Rattle.walk_orders.specs.Law.{ListsAgree, RecordedIsOrdered, RecordedTest, TestIsOrdered, WeavingLaw, AccessesGoOn, WovenDecides, LoggedIsWoven};
+
+/// Along two lists of all counted steps that keep an ordered relation and have an exit last, the guided walk holds along both
+/// or neither, with the same visits.
+pub fn lists_with_exits_last_agree()
+    ensures { ListsAgree }
+{}
 
 /// The recorded order of a log is ordered, where the log's walk is defined and its calls fit.
 pub fn recorded_order_is_ordered()
