@@ -1,0 +1,11 @@
+pub mod Counts
+pub mod Extends
+pub mod Chains
+pub mod Known
+pub mod AtRest
+pub mod Complete
+pub mod TotalOrders
+pub mod Places
+pub mod Added
+pub mod Numbered
+pub mod Tabled
