@@ -76,6 +76,21 @@ pub no_end : (told : Told) (done : List Pos) (o : Option ℕ) (target : ℕ) →
 no_end told done None target e ends q need = absurd need
 no_end told done (Some t) target e ends q need = absurd (none-some q (ends ∙ ap told.ender (same_Some target t e) ∙ need))
 
+pub step_needed : (told : Told) (done : List Pos) (t s : ℕ) → 0 < s → ((q : Pos) → NeedsThread told q t s → In q done) → In (let p : Pos = record { thread = t; step = s - 1 } in p) done
+step_needed told done t zero some all = absurd (omega (arith, some))
+step_needed told done t (suc s) some all =
+    let same : suc s - 1 ≡ s = omega arith in
+    subst (λ (k : ℕ). In (let p : Pos = record { thread = t; step = k } in p) done) (sym same) (all (record { thread = t; step = s }) refl)
+
+pub spawn_needed : (told : Told) (done : List Pos) (t s : ℕ) (spawn : Pos) → s ≤ 0 → (t ≡ 0 → ⊥) → Some spawn ≡ told.maker t → ((q : Pos) → NeedsThread told q t s → In q done) → In spawn done
+spawn_needed told done zero s spawn none other made all = absurd (other refl)
+spawn_needed told done (suc t) zero spawn none other made all = all spawn (sym made)
+spawn_needed told done (suc t) (suc s) spawn none other made all = absurd (omega (arith, none))
+
+pub end_needed : (told : Told) (done : List Pos) (o : Option ℕ) (target : ℕ) (end : Pos) → Some target ≡ o → Some end ≡ told.ender target → ((q : Pos) → NeedsJoin told q o → In q done) → In end done
+end_needed told done None target end e ends all = absurd (none-some target (sym e))
+end_needed told done (Some t) target end e ends all = all end (sym (ends ∙ ap told.ender (same_Some target t e)))
+
 pub end_before : (told : Told) (done : List Pos) (o : Option ℕ) (target : ℕ) (end : Pos) → Some target ≡ o → Some end ≡ told.ender target → In end done → (q : Pos) → NeedsJoin told q o → In q done
 end_before told done None target end e ends here q need = absurd need
 end_before told done (Some t) target end e ends here q need =
@@ -88,15 +103,24 @@ both_done told done p o one other q (inr need) = other q need
 
 -- ---- lists
 
+abbrev OrderFrom : Told → List Pos → ℕ → Type 0
+OrderFrom told steps i = IsOrder told [] steps ↔ IsOrder told (take i steps) (drop i steps)
+
+pub order_next : (told : Told) (steps : List Pos) (i : ℕ) (d : Pos) → i < length steps → OrderFrom told steps i → IsOrder told [] steps → Follows told (take i steps) (get_or steps i d)
+order_next told steps i d within so_far whole = (subst (IsOrder told (take i steps)) (drop_more steps i d within) (so_far.0 whole)).0
+
 pub order_more : (told : Told) (steps : List Pos) (i : ℕ) (p : Pos) → i < length steps → p ≡ get_or steps i p → Follows told (take i steps) p
-    → (IsOrder told (take i steps) (drop i steps) → IsOrder told [] steps) → IsOrder told (take (i + 1) steps) (drop (i + 1) steps) → IsOrder told [] steps
-order_more told steps i p within is follows so_far later =
+    → OrderFrom told steps i → OrderFrom told steps (i + 1)
+order_more told steps i p within is follows so_far =
     let front : take (i + 1) steps ≡ take i steps ++ p ∷ [] = take_more steps i p within ∙ ap (λ (x : Pos). take i steps ++ x ∷ []) (sym is) in
     let rest : drop i steps ≡ p ∷ drop (i + 1) steps = drop_more steps i p within ∙ ap (λ (x : Pos). x ∷ drop (i + 1) steps) (sym is) in
-    so_far (subst (IsOrder told (take i steps)) (sym rest) (follows, subst (λ (done : List Pos). IsOrder told done (drop (i + 1) steps)) front later))
+    (
+      λ whole. subst (λ (done : List Pos). IsOrder told done (drop (i + 1) steps)) (sym front) (subst (IsOrder told (take i steps)) rest (so_far.0 whole)).1,
+      λ later. so_far.1 (subst (IsOrder told (take i steps)) (sym rest) (follows, subst (λ (done : List Pos). IsOrder told done (drop (i + 1) steps)) front later)),
+    )
 
-pub order_end : (told : Told) (steps : List Pos) (i : ℕ) → length steps ≤ i → (IsOrder told (take i steps) (drop i steps) → IsOrder told [] steps) → IsOrder told [] steps
-order_end told steps i past so_far = so_far (subst (IsOrder told (take i steps)) (sym (drop_all i steps past)) tt)
+pub order_end : (told : Told) (steps : List Pos) (i : ℕ) → length steps ≤ i → OrderFrom told steps i → IsOrder told [] steps
+order_end told steps i past so_far = so_far.1 (subst (IsOrder told (take i steps)) (sym (drop_all i steps past)) tt)
 
 pub row_none : (steps : List Pos) (thread : ℕ) → HasRow steps thread 0
 row_none steps thread step less = absurd (omega (arith, less))

@@ -1,8 +1,10 @@
 //! Whether a guided walk holds.
 
-ghost use Rattle.std.specs.Prelude.{◌≡◌, ◌↔◌, IfOk, IfSome, IsTrue};
+ghost use Rattle.std.specs.Prelude.{◌≡◌, ◌↔◌, [], All, IfOk, IfSome, IfNone, IsTrue};
 ghost use Rattle.guided_walk.specs.Guided.{Guided};
+ghost use Rattle.plain_walk.specs.Begun.{CanBegin};
 ghost use Rattle.plain_walk.specs.Data.{told_of, given_of};
+ghost use Rattle.plain_walk.specs.Order.{IsOrder, HasEach, IsCounted};
 
 use crate::given::Supplied;
 use crate::order::is_whole_order;
@@ -15,7 +17,8 @@ use rv_model::state::Note;
 use std::alloc::Global;
 
 /// Whether a guided walk holds, by the walk along a list of all steps in which each stands after what it is made of. None
-/// where the list isn't seen to be one, or can't be walked along.
+/// only where the list isn't one, where a step's thread has no beginning or its reply more bytes than a word counts, or
+/// where the notes are of more threads or steps than their numbers count.
 pub fn is_guided(
     alloc: Global,
     image: &Image,
@@ -24,7 +27,11 @@ pub fn is_guided(
     rows: &[List<Supplied>],
     steps: &[Pos],
 ) -> Result<Option<bool>, Memory>
-    ensures { IfOk result (λ found. IfSome found (λ holds. IsTrue holds ↔ Guided image.now (told_of notes.now calls.now) (given_of rows.now))) }
+    ensures some { IfOk result (λ found. IfSome found (λ holds. IsTrue holds
+        ↔ Guided image.now (told_of notes.now calls.now) (given_of rows.now))) }
+    ensures none { IfOk result (λ found. IfNone found (IsCounted notes.now
+        → IsOrder (told_of notes.now calls.now) [] steps.now → HasEach (told_of notes.now calls.now) steps.now
+        → All (CanBegin (told_of notes.now calls.now)) steps.now → ⊥)) }
 {
     if !is_whole_order(calls, notes, steps) {
         return Ok(None);

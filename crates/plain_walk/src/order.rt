@@ -4,11 +4,11 @@ ghost use Rattle.std.specs.Prelude.{◌≡◌, ◌<◌, ◌↔◌, ◌^◌, ℕ,
 ghost use Rattle.std.specs.List.{list_any};
 ghost use Rattle.guided_walk.specs.Orders.{In};
 ghost use Rattle.guided_walk.specs.Flow.{NeedsThread, NeedsJoin, Needs};
-ghost use Rattle.guided_walk.specs.Told.{IsPlace, noted};
+ghost use Rattle.guided_walk.specs.Told.{noted};
 ghost use Rattle.guided_walk.specs.Guided.{joins};
 ghost use Rattle.plain_walk.specs.Data.{told_of, noted_in};
 ghost use Rattle.odr_log.specs.declared.log.Pos.{Pos};
-ghost use Rattle.plain_walk.specs.Order.{Follows, IsOrder, HasRow};
+ghost use Rattle.plain_walk.specs.Order.{Follows, IsOrder, HasEach, HasRow, IsCounted};
 
 use crate::told::{ender_of, joined_by, maker_of, notes_of};
 use odr_list::list::List;
@@ -31,7 +31,7 @@ fn contains(steps: &[Pos], step: Pos) -> bool
 /// Whether the steps done have what a thread is made of before a step.
 #[tactic(auto, using(crate::proofs::OrderLemmas::threads))]
 fn has_thread(calls: &[CallRec], notes: &[List<Note>], done: &[Pos], at: Pos) -> bool
-    ensures { IsTrue result → (q : Pos) → NeedsThread (told_of notes.now calls.now) q at.thread at.step → In q done.now }
+    ensures { IsTrue result ↔ ((q : Pos) → NeedsThread (told_of notes.now calls.now) q at.thread at.step → In q done.now) }
 {
     if at.step > 0 {
         let before = Pos {
@@ -52,7 +52,7 @@ fn has_thread(calls: &[CallRec], notes: &[List<Note>], done: &[Pos], at: Pos) ->
 /// Whether the steps done have the end of the thread that a step joins.
 #[tactic(auto, using(crate::proofs::OrderLemmas::joins))]
 fn has_end(calls: &[CallRec], notes: &[List<Note>], done: &[Pos], at: Pos) -> bool
-    ensures { IsTrue result → (q : Pos) → NeedsJoin (told_of notes.now calls.now) q (joins (noted (told_of notes.now calls.now) at)) → In q done.now }
+    ensures { IsTrue result ↔ ((q : Pos) → NeedsJoin (told_of notes.now calls.now) q (joins (noted (told_of notes.now calls.now) at)) → In q done.now) }
 {
     match joined_by(notes_of(notes, at.thread), at.step) {
         None => true,
@@ -65,20 +65,20 @@ fn has_end(calls: &[CallRec], notes: &[List<Note>], done: &[Pos], at: Pos) -> bo
 
 /// Whether the steps done have what a step is made of.
 fn has_needs(calls: &[CallRec], notes: &[List<Note>], done: &[Pos], at: Pos) -> bool
-    ensures { IsTrue result → (q : Pos) → Needs (told_of notes.now calls.now) q at → In q done.now }
+    ensures { IsTrue result ↔ ((q : Pos) → Needs (told_of notes.now calls.now) q at → In q done.now) }
 {
     has_thread(calls, notes, done, at) && has_end(calls, notes, done, at)
 }
 
 fn is_place(notes: &[List<Note>], at: Pos) -> bool
-    ensures { IsTrue result → at.step < length (slice_index_or notes.now at.thread []) }
+    ensures { IsTrue result ↔ (at.step < length (slice_index_or notes.now at.thread [])) }
 {
     (at.step as usize) < notes_of(notes, at.thread).len()
 }
 
 /// Whether a step can stand after those done: it is a step of the log, is not done, and what it is made of is.
 fn follows(calls: &[CallRec], notes: &[List<Note>], done: &[Pos], at: Pos) -> bool
-    ensures { IsTrue result → Follows (told_of notes.now calls.now) done.now at }
+    ensures { IsTrue result ↔ Follows (told_of notes.now calls.now) done.now at }
 {
     if !is_place(notes, at) {
         return false;
@@ -92,7 +92,7 @@ fn follows(calls: &[CallRec], notes: &[List<Note>], done: &[Pos], at: Pos) -> bo
 /// Whether each step of a list can stand where it does.
 #[tactic(auto, using(crate::proofs::OrderLemmas::lists))]
 fn is_order(calls: &[CallRec], notes: &[List<Note>], steps: &[Pos]) -> bool
-    ensures { IsTrue result → IsOrder (told_of notes.now calls.now) [] steps.now }
+    ensures { IsTrue result ↔ IsOrder (told_of notes.now calls.now) [] steps.now }
 {
     for i in 0..steps.len() {
         if !follows(calls, notes, &steps[..i], steps[i]) {
@@ -105,7 +105,7 @@ fn is_order(calls: &[CallRec], notes: &[List<Note>], steps: &[Pos]) -> bool
 /// Whether a list has the first steps of a thread.
 #[tactic(auto, using(crate::proofs::OrderLemmas::rows))]
 fn has_row(steps: &[Pos], thread: u8, count: u32) -> bool
-    ensures { IsTrue result → HasRow steps.now thread count }
+    ensures { IsTrue result ↔ HasRow steps.now thread count }
 {
     for step in 0..count {
         if !contains(steps, Pos { thread, step }) {
@@ -117,7 +117,9 @@ fn has_row(steps: &[Pos], thread: u8, count: u32) -> bool
 
 /// Whether a list has all steps of a thread.
 fn has_steps_of(notes: &[List<Note>], steps: &[Pos], thread: u8) -> bool
-    ensures { IsTrue result → HasRow steps.now thread (length (slice_index_or notes.now thread [])) }
+    ensures has { IsTrue result → HasRow steps.now thread (length (slice_index_or notes.now thread [])) }
+    ensures misses { length (slice_index_or notes.now thread []) < 2 ^ 32
+        → HasRow steps.now thread (length (slice_index_or notes.now thread [])) → IsTrue result }
 {
     let count = notes_of(notes, thread).len();
     count <= u32::MAX as usize && has_row(steps, thread, count as u32)
@@ -125,7 +127,9 @@ fn has_steps_of(notes: &[List<Note>], steps: &[Pos], thread: u8) -> bool
 
 /// Whether a list has all steps of a log of at most 256 threads.
 fn has_all(notes: &[List<Note>], steps: &[Pos]) -> bool
-    ensures { IsTrue result → (p : Pos) → p.step < length (slice_index_or notes.now p.thread []) → In p steps.now }
+    ensures has { IsTrue result → (p : Pos) → p.step < length (slice_index_or notes.now p.thread []) → In p steps.now }
+    ensures misses { IsCounted notes.now
+        → ((p : Pos) → p.step < length (slice_index_or notes.now p.thread []) → In p steps.now) → IsTrue result }
 {
     if notes.len() > 256 {
         return false;
@@ -138,11 +142,13 @@ fn has_all(notes: &[List<Note>], steps: &[Pos]) -> bool
     true
 }
 
-/// Whether a list has each step of a log once, after what it is made of. Where it answers false it may know no better: a
-/// log of more threads or steps than the table has room for.
+/// Whether a list has each step of a log once, after what it is made of. It answers false also for a log of more than 256
+/// threads, and for one with a thread of 2 ^ 32 steps or more.
 pub fn is_whole_order(calls: &[CallRec], notes: &[List<Note>], steps: &[Pos]) -> bool
     ensures order { IsTrue result → IsOrder (told_of notes.now calls.now) [] steps.now }
-    ensures all { IsTrue result → (p : Pos) → IsPlace (told_of notes.now calls.now) p → In p steps.now }
+    ensures all { IsTrue result → HasEach (told_of notes.now calls.now) steps.now }
+    ensures misses { IsCounted notes.now → IsOrder (told_of notes.now calls.now) [] steps.now
+        → HasEach (told_of notes.now calls.now) steps.now → IsTrue result }
 {
     is_order(calls, notes, steps) && has_all(notes, steps)
 }

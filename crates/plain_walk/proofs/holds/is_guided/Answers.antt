@@ -7,8 +7,8 @@ use Rattle.plain_walk.specs.Tables.{visits_in}
 use Rattle.plain_walk.proofs.HoldsLemmas.{decides}
 use Rattle.plain_walk.proofs.holds.is_guided.Goals as goal
 
-pub returns : goal.returns
-returns c =
+pub returns-clause-some : goal.returns-clause-some
+returns-clause-some c =
     let told : Told = told_of c.args.notes.now c.args.calls.now in
     let start : Visits = visits_of c.in-Some.table.nothing [] in
     let walked : visits_in c.in-Some.table ≡ walk_along c.args.image.now told (given_of c.args.rows.now) c.args.steps.now start = rw c.in-Some.is at c.in_ok-table.ensures.some in
