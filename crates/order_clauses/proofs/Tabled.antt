@@ -1,5 +1,5 @@
 -- A table's literals are of its own variables.
-use Rattle.std.proofs.Common.{◌≡◌, ◌≢◌, ℕ, ◌<◌, ◌+◌, ◌⊎◌, Bool, true, false, List, length, refl, sym, ◌∙◌, ap, subst, inl, inr, arith}
+use Rattle.std.proofs.Common.{◌≡◌, ◌≢◌, ℕ, ◌<◌, ◌+◌, ◌⊎◌, Bool, true, false, List, ◌++◌, length, refl, sym, ◌∙◌, ap, subst, inl, inr, arith}
 use Rattle.std.proofs.lemmas.Bool.{false≢true}
 use Rattle.clause_store.specs.declared.lit.Lit.{Lit}
 use Rattle.order_clauses.specs.declared.order_lit.OrderLit.{OrderLit}
@@ -7,12 +7,13 @@ use Rattle.order_clauses.specs.declared.order_lit.OrderLit.TheVariants as order_
 use Rattle.order_clauses.specs.declared.pair.Pair.{Pair}
 use Rattle.order_clauses.specs.declared.table.Table.{Table}
 use Rattle.order_clauses.specs.Literals.{literal_of}
-use Rattle.clause_store.specs.Formula.{Formula, AllKnown}
+use Rattle.clause_store.specs.Formula.{Formula, AllKnown, Grows}
 use Rattle.order_clauses.specs.Tables.{IsTable}
 use Rattle.order_clauses.specs.Clauses.{Adds, OrderClause}
 use Rattle.order_clauses.specs.Grid.{recorded_in, lit_in, IsSquare, IsKnownOrder, KnowsTable}
 use Rattle.order_clauses.specs.Ordered.{IsOrdered}
 use Rattle.order_clauses.proofs.TotalOrders.{tables_orders}
+use Rattle.order_clauses.proofs.Added.{adds_grows}
 use Rattle.order_clauses.proofs.Counts.{lower-first}
 use Rattle.order_clauses.proofs.Known.{never_is, literal-differ}
 
@@ -61,6 +62,15 @@ tabled_known old between count t is_count table vars i j i_in j_in =
     knows_table t.count (recorded_in t) (lit_in t) old.vars between.vars t.pairs
     (subst (λ (n : ℕ). IsTable n (recorded_in t) (lit_in t) old.vars t.pairs) (sym is_count) table) vars i j i_in j_in
 
+ordered_grows : (old between new : Formula) (pairs : List Pair) → between.vars ≡ old.vars + length pairs → between.clauses ≡ old.clauses
+    → Grows between new → Grows old new
+ordered_grows old between new pairs vars same grows =
+    record {
+      vars = omega (arith, vars, grows.vars);
+      more = grows.more;
+      clauses = grows.clauses ∙ ap (λ (cs : List (List Lit)). cs ++ grows.more) same;
+    }
+
 pub ordered_made : (old between new : Formula) (first count : ℕ) (recorded : List Bool) (t : Table) → AllKnown old → first ≡ old.vars
     → t.count ≡ count → t.recorded ≡ recorded → IsSquare t → IsTable count (recorded_in t) (lit_in t) old.vars t.pairs
     → between.vars ≡ old.vars + length t.pairs → between.clauses ≡ old.clauses
@@ -76,6 +86,7 @@ ordered_made old between new first count recorded t known is_first is_count is_r
       recorded = is_recorded;
       square = square;
       table = tabled;
+      grows = ordered_grows old between new t.pairs vars same (adds_grows between new (OrderClause t.count (recorded_in t) (lit_in t)) adds);
       vars = adds.vars ∙ vars;
       known = λ i j i_in j_in. knows_table t.count (recorded_in t) (lit_in t) old.vars new.vars t.pairs tabled (adds.vars ∙ vars) i j i_in j_in;
       orders = λ strict. tables_orders t.count (recorded_in t) (lit_in t) t.pairs old between new known strict tabled vars same adds;
