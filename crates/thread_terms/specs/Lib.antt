@@ -1,0 +1,4 @@
+pub mod Standing
+pub mod Variables
+pub mod Given
+pub mod Steps
