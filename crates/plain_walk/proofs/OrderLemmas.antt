@@ -11,7 +11,8 @@ use Rattle.guided_walk.specs.Told.{Told}
 use Rattle.guided_walk.specs.Orders.{In}
 use Rattle.guided_walk.specs.Flow.{NeedsThread, NeedsJoin}
 use Rattle.guided_walk.proofs.Table.{same_pos}
-use Rattle.plain_walk.specs.Order.{Follows, IsOrder, HasRow}
+use Rattle.walk_lists.specs.Order.{Follows, IsOrder}
+use Rattle.plain_walk.specs.Order.{HasRow}
 
 -- ---- members
 

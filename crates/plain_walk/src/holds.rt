@@ -4,7 +4,8 @@ ghost use Rattle.std.specs.Prelude.{◌≡◌, ◌↔◌, [], All, IfOk, IfSome,
 ghost use Rattle.guided_walk.specs.Guided.{Guided};
 ghost use Rattle.plain_walk.specs.Begun.{CanBegin};
 ghost use Rattle.plain_walk.specs.Data.{told_of, given_of};
-ghost use Rattle.plain_walk.specs.Order.{IsOrder, HasEach, IsCounted};
+ghost use Rattle.plain_walk.specs.Order.{IsCounted};
+ghost use Rattle.walk_lists.specs.Order.{IsOrder, HasEach};
 
 use crate::given::Supplied;
 use crate::order::is_whole_order;

@@ -8,7 +8,8 @@ ghost use Rattle.guided_walk.specs.Told.{noted};
 ghost use Rattle.guided_walk.specs.Guided.{joins};
 ghost use Rattle.plain_walk.specs.Data.{told_of, noted_in};
 ghost use Rattle.odr_log.specs.declared.log.Pos.{Pos};
-ghost use Rattle.plain_walk.specs.Order.{Follows, IsOrder, HasEach, HasRow, IsCounted};
+ghost use Rattle.plain_walk.specs.Order.{HasRow, IsCounted};
+ghost use Rattle.walk_lists.specs.Order.{Follows, IsOrder, HasEach};
 
 use crate::told::{ender_of, joined_by, maker_of, notes_of};
 use odr_list::list::List;

@@ -1,5 +1,4 @@
 use Rattle.std.proofs.Common.{◌≡◌, Some, sym, ◌∙◌, arith}
-use Rattle.odr_log.specs.declared.log.Pos.{Pos}
 use Rattle.guided_walk.specs.Told.{Told}
 use Rattle.plain_walk.specs.Data.{told_of}
 use Rattle.plain_walk.proofs.OrderLemmas.{step_before, step_needed, made_before, spawn_needed}

@@ -1,6 +1,6 @@
 use Rattle.std.proofs.Common.{◌↔◌, [], take, drop}
 use Rattle.plain_walk.specs.Data.{told_of}
-use Rattle.plain_walk.specs.Order.{IsOrder}
+use Rattle.walk_lists.specs.Order.{IsOrder}
 use Rattle.plain_walk.proofs.order.is_order.Given as goal
 
 abbrev pub invariant-loop-i : goal.invariant-loop-i
