@@ -1,30 +1,11 @@
--- What a guided walk is told, given and finds, as the lists that the program keeps.
-use Rattle.std.specs.Prelude.{ℕ, Bool, false, ◌&&◌, List, [], ◌∷◌, length, nat_eq, slice_index_or, option_map}
-use Rattle.std.specs.List.{find}
-use Rattle.odr_log.specs.declared.log.CallRec.{CallRec}
+-- What a guided walk is given and finds, as the lists that the program keeps.
+use Rattle.std.specs.Prelude.{ℕ, Bool, false, ◌&&◌, List, [], ◌∷◌, nat_eq, slice_index_or}
 use Rattle.odr_log.specs.declared.log.Pos.{Pos}
-use Rattle.rv_model.specs.declared.state.Note.{Note}
-use Rattle.rv_model.specs.declared.state.Note.TheVariants as note
-use Rattle.rv_model.specs.Walk.{makes}
-use Rattle.guided_walk.specs.Told.{Told, place_of, ends}
 use Rattle.guided_walk.specs.Guided.{Given, Seen, Visit, Visits}
 use Rattle.guided_walk.specs.Along.{put_at}
 use Rattle.plain_walk.specs.declared.given.Supplied.{Supplied}
 use Rattle.plain_walk.specs.declared.table.Before.{Before}
 use Rattle.plain_walk.specs.declared.table.Visited.{Visited}
-
--- the note of a step of a thread with these notes
-abbrev pub noted_in : List Note → ℕ → Note
-noted_in notes step = slice_index_or notes step note.Nothing
-
--- what is told of a log by the notes of each thread's steps, with its fault last, and by the calls
-abbrev pub told_of : List (List Note) → List CallRec → Told
-told_of notes calls = record {
-  steps = λ thread. length (slice_index_or notes thread []);
-  note = λ thread step. noted_in (slice_index_or notes thread []) step;
-  maker = λ thread. option_map place_of (find (λ r. makes thread r.call) calls);
-  ender = λ thread. option_map place_of (find (ends thread) calls);
-}
 
 abbrev pub nothing_supplied : Supplied
 nothing_supplied = record { bytes = []; won = false }

@@ -4,7 +4,8 @@ ghost use Rattle.std.specs.Prelude.{◌≡◌, ◌<◌, ◌+◌, length, IfSome,
 ghost use Rattle.guided_walk.specs.Guided.{went, begins, handed, seen_before, joined_from, ended_with, joins, at};
 ghost use Rattle.rv_model.specs.Instruction.{reserving_at};
 ghost use Rattle.rv_model.specs.Step.{instr_at};
-ghost use Rattle.plain_walk.specs.Data.{told_of, seen_of, visit_of, noted_in};
+ghost use Rattle.plain_walk.specs.Data.{seen_of, visit_of};
+ghost use Rattle.walk_lists.specs.Data.{told_of, noted_in};
 ghost use Rattle.plain_walk.specs.Tables.{visits_in};
 ghost use Rattle.plain_walk.specs.Begun.{Begun, HandsOn};
 

@@ -3,7 +3,8 @@
 ghost use Rattle.std.specs.Prelude.{◌≡◌, ◌↔◌, [], All, IfOk, IfSome, IfNone, IsTrue};
 ghost use Rattle.guided_walk.specs.Guided.{Guided};
 ghost use Rattle.plain_walk.specs.Begun.{CanBegin};
-ghost use Rattle.plain_walk.specs.Data.{told_of, given_of};
+ghost use Rattle.plain_walk.specs.Data.{given_of};
+ghost use Rattle.walk_lists.specs.Data.{told_of};
 ghost use Rattle.plain_walk.specs.Order.{IsCounted};
 ghost use Rattle.walk_lists.specs.Order.{IsOrder, HasEach};
 

@@ -6,7 +6,7 @@ ghost use Rattle.guided_walk.specs.Orders.{In};
 ghost use Rattle.guided_walk.specs.Flow.{NeedsThread, NeedsJoin, Needs};
 ghost use Rattle.guided_walk.specs.Told.{noted};
 ghost use Rattle.guided_walk.specs.Guided.{joins};
-ghost use Rattle.plain_walk.specs.Data.{told_of, noted_in};
+ghost use Rattle.walk_lists.specs.Data.{told_of, noted_in};
 ghost use Rattle.odr_log.specs.declared.log.Pos.{Pos};
 ghost use Rattle.plain_walk.specs.Order.{HasRow, IsCounted};
 ghost use Rattle.walk_lists.specs.Order.{Follows, IsOrder, HasEach};

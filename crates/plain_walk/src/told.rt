@@ -10,7 +10,7 @@ ghost use Rattle.rv_model.specs.Thread.{no_thread};
 ghost use Rattle.rv_model.specs.Walk.{makes};
 ghost use Rattle.guided_walk.specs.Told.{ends, place_of};
 ghost use Rattle.guided_walk.specs.Guided.{joins};
-ghost use Rattle.plain_walk.specs.Data.{noted_in};
+ghost use Rattle.walk_lists.specs.Data.{noted_in};
 ghost use Rattle.plain_walk.specs.Begun.{HandsOn};
 
 use odr_list::bytes::Bytes;

@@ -5,7 +5,8 @@ ghost use Rattle.rv_model.specs.Noted.{note_in};
 ghost use Rattle.guided_walk.specs.Told.{noted};
 ghost use Rattle.guided_walk.specs.Guided.{at};
 ghost use Rattle.guided_walk.specs.Along.{walk_along};
-ghost use Rattle.plain_walk.specs.Data.{told_of, given_of, visits_of};
+ghost use Rattle.plain_walk.specs.Data.{given_of, visits_of};
+ghost use Rattle.walk_lists.specs.Data.{told_of};
 ghost use Rattle.plain_walk.specs.Tables.{visits_in};
 ghost use Rattle.plain_walk.specs.Begun.{CanBegin};
 

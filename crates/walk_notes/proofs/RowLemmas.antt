@@ -29,7 +29,7 @@ use Rattle.trace_path.proofs.WholeLemmas.{walks_one}
 use Rattle.guided_walk.specs.Told.{Told, told, last_fault, shown_by, place_of, ends}
 use Rattle.guided_walk.proofs.Facts.{past_notes, in_log}
 use Rattle.guided_walk.proofs.ScheduleLaw.{notes_are}
-use Rattle.plain_walk.specs.Data.{told_of}
+use Rattle.walk_lists.specs.Data.{told_of}
 use Rattle.walk_notes.specs.Telling.{note_by, call_note, IsTransfer}
 use Rattle.walk_notes.proofs.NoteLemmas.{leads_at, items, item_at, items_more, is_record, called_is, note_fits}
 

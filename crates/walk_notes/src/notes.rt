@@ -5,7 +5,7 @@ ghost use Rattle.rv_model.specs.Run.{logged};
 ghost use Rattle.rv_model.specs.Walk.{Walk, IsWalk, notes_of};
 ghost use Rattle.trace_path.specs.Traced.{IsTraced};
 ghost use Rattle.guided_walk.specs.Told.{told, last_fault, shown_by};
-ghost use Rattle.plain_walk.specs.Data.{told_of};
+ghost use Rattle.walk_lists.specs.Data.{told_of};
 ghost use Rattle.walk_notes.specs.Telling.{IsTransfer};
 
 use crate::note::{items_in, note_at};

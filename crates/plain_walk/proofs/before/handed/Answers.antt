@@ -1,6 +1,6 @@
 use Rattle.std.proofs.Common.{List, sym, ◌∙◌, subst, IfNone}
 use Rattle.rv_model.specs.declared.state.Note.{Note}
-use Rattle.plain_walk.specs.Data.{told_of, noted_in}
+use Rattle.walk_lists.specs.Data.{told_of, noted_in}
 use Rattle.plain_walk.specs.Begun.{HandsOn}
 use Rattle.plain_walk.proofs.BegunLemmas.{handed_none}
 use Rattle.plain_walk.proofs.before.handed.Goals as goal

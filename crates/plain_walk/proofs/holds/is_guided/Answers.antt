@@ -2,7 +2,8 @@ use Rattle.std.proofs.Common.{◌≡◌, [], refl}
 use Rattle.guided_walk.specs.Told.{Told}
 use Rattle.guided_walk.specs.Guided.{Visits}
 use Rattle.guided_walk.specs.Along.{walk_along}
-use Rattle.plain_walk.specs.Data.{told_of, given_of, visits_of}
+use Rattle.plain_walk.specs.Data.{given_of, visits_of}
+use Rattle.walk_lists.specs.Data.{told_of}
 use Rattle.plain_walk.specs.Tables.{visits_in}
 use Rattle.plain_walk.proofs.HoldsLemmas.{decides}
 use Rattle.plain_walk.proofs.holds.is_guided.Goals as goal

@@ -2,7 +2,7 @@ use Rattle.std.proofs.Common.{◌≡◌, ℕ, Option, Some, List, sym, ◌∙◌
 use Rattle.rv_model.specs.declared.state.Note.{Note}
 use Rattle.guided_walk.specs.Told.{Told, noted}
 use Rattle.guided_walk.specs.Guided.{joins}
-use Rattle.plain_walk.specs.Data.{told_of, noted_in}
+use Rattle.walk_lists.specs.Data.{told_of, noted_in}
 use Rattle.plain_walk.proofs.OrderLemmas.{end_before, end_needed}
 use Rattle.plain_walk.proofs.order.has_end.Goals as goal
 

@@ -2,7 +2,7 @@ use Rattle.std.proofs.Common.{refl, sym, ◌∙◌, inl, inr}
 use Rattle.std.proofs.lemmas.Bool.{false≢true}
 use Rattle.guided_walk.specs.Told.{noted}
 use Rattle.guided_walk.specs.Guided.{joins}
-use Rattle.plain_walk.specs.Data.{told_of}
+use Rattle.walk_lists.specs.Data.{told_of}
 use Rattle.plain_walk.proofs.OrderLemmas.{both_done}
 use Rattle.plain_walk.proofs.order.has_needs.Goals as goal
 

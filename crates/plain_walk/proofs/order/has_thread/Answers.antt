@@ -1,6 +1,6 @@
 use Rattle.std.proofs.Common.{◌≡◌, Some, sym, ◌∙◌, arith}
 use Rattle.guided_walk.specs.Told.{Told}
-use Rattle.plain_walk.specs.Data.{told_of}
+use Rattle.walk_lists.specs.Data.{told_of}
 use Rattle.plain_walk.proofs.OrderLemmas.{step_before, step_needed, made_before, spawn_needed}
 use Rattle.plain_walk.proofs.order.has_thread.Goals as goal
 

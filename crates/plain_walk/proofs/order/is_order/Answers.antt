@@ -1,5 +1,5 @@
 use Rattle.std.proofs.lemmas.Bool.{false≢true}
-use Rattle.plain_walk.specs.Data.{told_of}
+use Rattle.walk_lists.specs.Data.{told_of}
 use Rattle.plain_walk.proofs.OrderLemmas.{order_next}
 use Rattle.plain_walk.proofs.order.is_order.Goals as goal
 

@@ -1,5 +1,5 @@
 use Rattle.std.proofs.Common.{◌↔◌, [], take, drop}
-use Rattle.plain_walk.specs.Data.{told_of}
+use Rattle.walk_lists.specs.Data.{told_of}
 use Rattle.walk_lists.specs.Order.{IsOrder}
 use Rattle.plain_walk.proofs.order.is_order.Given as goal
 

@@ -1,6 +1,7 @@
 use Rattle.std.proofs.Common.{◌≡◌, drop, []}
 use Rattle.guided_walk.specs.Along.{walk_along}
-use Rattle.plain_walk.specs.Data.{told_of, given_of, visits_of}
+use Rattle.plain_walk.specs.Data.{given_of, visits_of}
+use Rattle.walk_lists.specs.Data.{told_of}
 use Rattle.plain_walk.specs.Tables.{visits_in}
 use Rattle.plain_walk.proofs.walk.walk_along.Given as goal
 
