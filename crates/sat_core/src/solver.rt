@@ -47,7 +47,8 @@ impl<'s, 'a> Solver<'s, 'a> {
         Ok(Solver { clauses, first })
     }
 
-    /// Looks for an assignment that satisfies the clauses, or derives the empty line, in fewer lines than the budget.
+    /// Looks for an assignment that satisfies the clauses, or derives the empty line as the budget's last line at the
+    /// latest; it ends with exactly as many lines as the budget where neither was found, none of them empty.
     /// Two searches take turns: one whose lines are the derivation, and one over all variables, which often finds an
     /// assignment sooner, and whose lines are thrown away. Each turn is bounded, so the answer depends on nothing else.
     pub fn solve(self, alloc: Global, budget: u64) -> Result<Answer, Memory>
