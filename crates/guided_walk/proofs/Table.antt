@@ -56,7 +56,7 @@ same_visit image told given v w p agree =
 
 -- ---- the table that is filled along a list
 
-at_put : (p : Pos) (here : Visit) (v : Visits) → at (put_at p here v) p ≡ here
+pub at_put : (p : Pos) (here : Visit) (v : Visits) → at (put_at p here v) p ≡ here
 at_put p here v = ap (λ (b : Bool). cond b here (at v p)) (and_from _ _ (eq-eqb p.thread p.thread refl) (eq-eqb p.step p.step refl))
 
 pub same_pos : (p q : Pos) → q.thread ≡ p.thread → q.step ≡ p.step → p ≡ q
@@ -69,7 +69,7 @@ not_here p q other true e =
     absurd (other (same_pos p q (eqb-true q.thread p.thread (and_parts _ _ e).0) (eqb-true q.step p.step (and_parts _ _ e).1)))
 not_here p q other false e = refl
 
-at_other : (p q : Pos) (here : Visit) (v : Visits) → (p ≡ q → ⊥) → at (put_at p here v) q ≡ at v q
+pub at_other : (p q : Pos) (here : Visit) (v : Visits) → (p ≡ q → ⊥) → at (put_at p here v) q ≡ at v q
 at_other p q here v other =
     ap (λ (b : Bool). cond b here (at v q)) (not_here p q other (nat_eq q.thread p.thread && nat_eq q.step p.step) refl)
 
