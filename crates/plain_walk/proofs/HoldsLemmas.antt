@@ -34,8 +34,7 @@ Shown told visits p = note_in (at visits p).outcome ≡ noted told p
 pub decides : (image : Layout) (told : Told) (given : Given) (steps : List Pos) (start visits : Visits) → IsOrder told [] steps → HasEach told steps
     → visits ≡ walk_along image told given steps start → All (Shown told visits) steps ↔ Guided image told given
 decides image told given steps start visits order all walked =
-    let along = (list_law image told given steps start order all).holds in
-    (
+    let along = (list_law image told given steps start order all).holds in (
       λ shown. along.0 (λ p i. subst (λ (v : Visits). Shown told v p) walked (all_in (Shown told visits) steps shown p i)),
       λ guided. in_all (Shown told visits) steps (λ p i. subst (λ (v : Visits). Shown told v p) (sym walked) (along.1 guided p i)),
     )

@@ -114,8 +114,7 @@ pub order_more : (told : Told) (steps : List Pos) (i : ℕ) (p : Pos) → i < le
     → OrderFrom told steps i → OrderFrom told steps (i + 1)
 order_more told steps i p within is follows so_far =
     let front : take (i + 1) steps ≡ take i steps ++ p ∷ [] = take_more steps i p within ∙ ap (λ (x : Pos). take i steps ++ x ∷ []) (sym is) in
-    let rest : drop i steps ≡ p ∷ drop (i + 1) steps = drop_more steps i p within ∙ ap (λ (x : Pos). x ∷ drop (i + 1) steps) (sym is) in
-    (
+    let rest : drop i steps ≡ p ∷ drop (i + 1) steps = drop_more steps i p within ∙ ap (λ (x : Pos). x ∷ drop (i + 1) steps) (sym is) in (
       λ whole. subst (λ (done : List Pos). IsOrder told done (drop (i + 1) steps)) (sym front) (subst (IsOrder told (take i steps)) rest (so_far.0 whole)).1,
       λ later. so_far.1 (subst (IsOrder told (take i steps)) (sym rest) (follows, subst (λ (done : List Pos). IsOrder told done (drop (i + 1) steps)) front later)),
     )

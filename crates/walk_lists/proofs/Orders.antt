@@ -63,8 +63,8 @@ list_law image told given steps start order all =
     let visits : Visits = walk_along image told given steps start in
     let solves : Solves image told given visits steps = walk_solves image told given [] steps start settled (distinct_by told [] steps order) (apart_none steps) in
     let same : (other : Visits) → IsGuided image told given other → (p : Pos) → In p steps → at other p ≡ at visits p =
-        (λ other guided p i. one_solution image told given other visits [] steps settled (λ (q : Pos) (d : In q []). absurd d)
-            (λ (q : Pos) (j : In q steps). guided.solves q (places_by told [] steps order q j)) solves p i) in
+    (λ other guided p i. one_solution image told given other visits [] steps settled (λ (q : Pos) (d : In q []). absurd d)
+    (λ (q : Pos) (j : In q steps). guided.solves q (places_by told [] steps order q j)) solves p i) in
     record {
       holds = (
         λ along. (visits, record { solves = λ p place. solves p (all p place); shows = λ p place. along p (all p place) }),

@@ -1,0 +1,4 @@
+pub mod Strict
+pub mod Cells
+pub mod ChosenTables
+pub mod Agreeing
