@@ -1,15 +1,15 @@
 -- What is known of the order of two places.
-use Rattle.std.proofs.Common.{◌≡◌, ◌≢◌, ℕ, ◌<◌, ◌+◌, ◌⊎◌, Bool, true, false, not, ◌&&◌, Option, Some, None, List, refl, sym, ◌∙◌, ap, subst, inl, inr}
+use Rattle.std.proofs.Common.{◌≡◌, ◌≢◌, ℕ, ◌<◌, ◌+◌, ◌⊎◌, Bool, true, false, not, cond, ◌&&◌, Option, Some, None, List, refl, sym, ◌∙◌, ap, subst, inl, inr}
 use Rattle.std.specs.Prelude.{nat_lt, nat_eq}
 use Rattle.std.proofs.lemmas.Bool.{false≢true, eq-eqb, ne_eqb, and_parts, and_from, ltb-true, lt-ltb, not-true, false_from_ne_true}
 use Rattle.clause_store.specs.declared.lit.Lit.{Lit}
-use Rattle.clause_store.specs.Literals.{opposite}
+use Rattle.clause_store.specs.Literals.{Assignment, opposite}
 use Rattle.clause_store.specs.UnitRule.{Partial, MakesTrue}
 use Rattle.clause_store.proofs.Rest.{true_not_false, given-opposite}
 use Rattle.order_clauses.specs.declared.order_lit.OrderLit.{OrderLit}
 use Rattle.order_clauses.specs.declared.order_lit.OrderLit.TheVariants as order_lit
 use Rattle.order_clauses.specs.declared.pair.Pair.{Pair}
-use Rattle.order_clauses.specs.Literals.{literal_of, is_value, is_known, known_before}
+use Rattle.order_clauses.specs.Literals.{literal_of, spelled, is_value, is_known, all_given, known_before}
 use Rattle.order_clauses.specs.Orders.{IsStrictBelow}
 use Rattle.order_clauses.specs.Tables.{IsTable}
 use Rattle.order_clauses.proofs.Counts.{lower-first}
@@ -21,6 +21,18 @@ is_literal (order_lit.Is l) = true
 
 pub never_is : (l : Lit) → order_lit.Never ≡ order_lit.Is l → ⊥
 never_is l e = false≢true (ap (λ (o : OrderLit). is_literal o) e)
+
+-- with all values given, what is known is what is true
+given_value : (b p : Bool) → is_value (Some b) p ≡ cond p b (not b)
+given_value true true = refl
+given_value true false = refl
+given_value false true = refl
+given_value false false = refl
+
+pub known_spelled : (w : Assignment) (o : OrderLit) → is_known (all_given w) o ≡ spelled w o
+known_spelled w order_lit.Always = refl
+known_spelled w order_lit.Never = refl
+known_spelled w (order_lit.Is l) = given_value (w l.var) l.positive
 
 value_is : (o : Option Bool) (b : Bool) → is_value o b ≡ true → o ≡ Some b
 value_is None b e = absurd (false≢true e)

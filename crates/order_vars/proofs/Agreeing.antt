@@ -1,5 +1,5 @@
 -- Assignments and values at rest are total orders of the chosen steps that agree with the recorded order.
-use Rattle.std.proofs.Common.{◌≡◌, ◌≢◌, ℕ, suc, ◌<◌, Bool, true, false, cond, not, Some, List, length, refl, sym, ◌∙◌, arith}
+use Rattle.std.proofs.Common.{◌≡◌, ◌≢◌, ℕ, suc, ◌<◌, Bool, true, false, List, length, refl, sym, ◌∙◌, arith}
 use Rattle.std.proofs.lemmas.Bool.{false_from_ne_true}
 use Rattle.odr_log.specs.declared.log.Log.{Log}
 use Rattle.odr_log.specs.declared.log.Pos.{Pos}
@@ -7,28 +7,15 @@ use Rattle.clause_store.specs.Literals.{Assignment}
 use Rattle.clause_store.specs.UnitRule.{Partial}
 use Rattle.clause_store.specs.Formula.{Formula}
 use Rattle.order_clauses.specs.declared.order_lit.OrderLit.{OrderLit}
-use Rattle.order_clauses.specs.declared.order_lit.OrderLit.TheVariants as order_lit
 use Rattle.order_clauses.specs.declared.ordered.OrderedTable.{OrderedTable}
-use Rattle.order_clauses.specs.Literals.{spelled, is_value, is_known, all_given, known_before}
+use Rattle.order_clauses.specs.Literals.{spelled, all_given, known_before}
 use Rattle.order_clauses.specs.Orders.{IsTotalAbove}
 use Rattle.order_clauses.specs.Grid.{recorded_in, lit_in}
 use Rattle.order_clauses.proofs.Extends.{each_extends}
-use Rattle.order_clauses.proofs.Known.{known-parts, known-from}
+use Rattle.order_clauses.proofs.Known.{known-parts, known-from, known_spelled}
 use Rattle.order_clauses.proofs.TotalOrders.{goes_both_ways}
 use Rattle.order_vars.specs.Chosen.{IsOrderVars, AgreesWith}
 use Rattle.order_vars.specs.Laws.{Keeps, AssignmentsAreOrders, OrdersAreAssignments, RestIsAnOrder, OpenPairsGoBothWays}
-
--- with all values given, what is known is what is true
-given_value : (b p : Bool) → is_value (Some b) p ≡ cond p b (not b)
-given_value true true = refl
-given_value true false = refl
-given_value false true = refl
-given_value false false = refl
-
-known_spelled : (w : Assignment) (o : OrderLit) → is_known (all_given w) o ≡ spelled w o
-known_spelled w order_lit.Always = refl
-known_spelled w order_lit.Never = refl
-known_spelled w (order_lit.Is l) = given_value (w l.var) l.positive
 
 same_test : (p q : Bool) → (p ≡ true → q ≡ true) → (q ≡ true → p ≡ true) → p ≡ q
 same_test true q to from = sym (to refl)

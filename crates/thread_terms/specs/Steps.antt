@@ -1,5 +1,5 @@
 -- What a step does to the terms of its thread, and what it adds to them.
-use Rattle.std.specs.Prelude.{◌≡◌, ◌↔◌, ◌⊎◌, ℕ, ◌<◌, List, [], All, IfSome, length, nat_eq, slice_get, Bool, Option, Some, None, Ok, is_some, if◌then◌else◌}
+use Rattle.std.specs.Prelude.{◌≡◌, ◌↔◌, ◌⊎◌, ℕ, List, [], All, IfSome, length, nat_eq, slice_get, Bool, Option, Some, None, Ok, is_some, if◌then◌else◌}
 use Rattle.elf_image.specs.Layout.{Layout}
 use Rattle.elf_image.specs.Memory.{writes_of}
 use Rattle.rv32_decode.specs.declared.instr.Instr.{Instr}

@@ -1,0 +1,14 @@
+pub mod Cells
+pub mod Gathered
+pub mod Kept
+pub mod NewestWrite
+pub mod Numbers
+pub mod Recorded
+pub mod FixedSources
+pub mod Downset
+pub mod ExactSources
+pub mod Merge
+pub mod Members
+pub mod SeenBytes
+pub mod NeededAccesses
+pub mod RaceSets

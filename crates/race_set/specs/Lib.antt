@@ -1,0 +1,9 @@
+pub mod Bytes
+pub mod Accesses
+pub mod Places
+pub mod Readings
+pub mod Outcomes
+pub mod Needs
+pub mod Runs
+pub mod Races
+pub mod Laws

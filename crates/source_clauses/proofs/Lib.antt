@@ -1,0 +1,13 @@
+pub mod Conditional
+pub mod Latest
+pub mod Alike
+pub mod Force
+pub mod Sound
+pub mod Settled
+pub mod Complete
+pub mod Gathered
+pub mod Adding
+pub mod Composed
+pub mod Pieces
+pub mod Enough
+pub mod SameBits

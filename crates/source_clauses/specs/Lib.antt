@@ -1,0 +1,9 @@
+pub mod Conditions
+pub mod Sees
+pub mod Clauses
+pub mod Contract
+pub mod Named
+pub mod Olders
+pub mod Same
+pub mod Among
+pub mod Laws
