@@ -1,0 +1,13 @@
+pub mod Tests
+pub mod Allowing
+pub mod LowBytes
+pub mod Outcomes
+pub mod Own
+pub mod Works
+pub mod Writing
+pub mod Loading
+pub mod Storing
+pub mod Atomics
+pub mod Silent
+pub mod Faulting
+pub mod Nexting

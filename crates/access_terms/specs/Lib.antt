@@ -1,0 +1,4 @@
+pub mod Rights
+pub mod Split
+pub mod Won
+pub mod Alone
