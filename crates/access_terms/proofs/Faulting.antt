@@ -27,8 +27,8 @@ use Rattle.rv_model.specs.Walk.{may_fault, transfer_of}
 use Rattle.bv_terms.specs.declared.node.TermId.{TermId}
 use Rattle.bv_terms.specs.BitVectors.{bit_of}
 use Rattle.bv_terms.specs.Shapes.{Shape}
-use Rattle.bv_terms.specs.Values.{Assignment, value_at}
-use Rattle.step_terms.specs.Made.{IsMade, IsTerm}
+use Rattle.bv_terms.specs.Values.{value_at}
+use Rattle.step_terms.specs.Made.{IsMade}
 use Rattle.thread_terms.specs.Given.{hears_by}
 use Rattle.thread_terms.specs.Standing.{Says, term_of}
 use Rattle.thread_terms.specs.Steps.{IsFault}
@@ -36,6 +36,7 @@ use Rattle.access_terms.specs.declared.right.Right.TheVariants as right
 use Rattle.access_terms.specs.Rights.{all_allow, may_use}
 use Rattle.access_terms.proofs.Allowing.{all_read, all_written}
 use Rattle.access_terms.proofs.Outcomes.{amo_outcome, conditional_outcome, load_outcome, reserve_outcome, store_outcome}
+use Rattle.access_terms.proofs.Own.{from_register}
 
 -- ---- the causes that an instruction may have
 
@@ -128,6 +129,7 @@ pub load_faults : (image : Layout) (p : Pos) (pc : ℕ) (op : LoadOp) (rd rs1 : 
     → IsFault image p pc (instr.Load op rd rs1 offset) (note.Faulted cause.LoadFault) link old new before id
 load_faults image p pc op rd rs1 offset link old new before id inside made = record {
   bit = made.term;
+  variables = from_register old new before rs1 1 id _ inside made;
   meets = λ w seen joined h.
       let place = plus_offset (register seen.local rs1) offset in
       let cells = opening_cells image in
@@ -143,6 +145,7 @@ pub store_faults : (image : Layout) (p : Pos) (pc : ℕ) (op : StoreOp) (rs1 rs2
     → IsFault image p pc (instr.Store op rs1 rs2 offset) (note.Faulted cause.StoreFault) link old new before id
 store_faults image p pc op rs1 rs2 offset link old new before id inside made = record {
   bit = made.term;
+  variables = from_register old new before rs1 1 id _ inside made;
   meets = λ w seen joined h.
       let place = plus_offset (register seen.local rs1) offset in
       let cells = opening_cells image in
@@ -158,6 +161,7 @@ pub reserve_faults : (image : Layout) (p : Pos) (pc : ℕ) (rd rs1 : ℕ) (aq rl
     → IsFault image p pc (instr.LoadReserved rd rs1 aq rl) (note.Faulted cause.AmoFault) link old new before id
 reserve_faults image p pc rd rs1 aq rl link old new before id inside made = record {
   bit = made.term;
+  variables = from_register old new before rs1 1 id _ inside made;
   meets = λ w seen joined h.
       let value : value_at w new id ≡ 1 - bit_of (may_use image (register seen.local rs1)) = made.value w ∙ ap (λ v. 1 - bit_of (may_use image v)) (h.stand.values rs1 inside) in
       noted_as (value_at w new id) cause.AmoFault _ _ (reserve_outcome image w p rd rs1 aq rl (note.Faulted cause.AmoFault) joined seen)
@@ -169,6 +173,7 @@ pub conditional_faults : (image : Layout) (p : Pos) (pc : ℕ) (rd rs1 rs2 : ℕ
     → IsFault image p pc (instr.StoreConditional rd rs1 rs2 aq rl) (note.Faulted cause.AmoFault) link old new before id
 conditional_faults image p pc rd rs1 rs2 aq rl link old new before id inside made = record {
   bit = made.term;
+  variables = from_register old new before rs1 1 id _ inside made;
   meets = λ w seen joined h.
       let value : value_at w new id ≡ 1 - bit_of (may_use image (register seen.local rs1)) = made.value w ∙ ap (λ v. 1 - bit_of (may_use image v)) (h.stand.values rs1 inside) in
       noted_as (value_at w new id) cause.AmoFault _ _ (conditional_outcome image w p rd rs1 rs2 aq rl (note.Faulted cause.AmoFault) joined seen)
@@ -180,6 +185,7 @@ pub amo_faults : (image : Layout) (p : Pos) (pc : ℕ) (op : AmoOp) (rd rs1 rs2 
     → IsFault image p pc (instr.Amo op rd rs1 rs2 aq rl) (note.Faulted cause.AmoFault) link old new before id
 amo_faults image p pc op rd rs1 rs2 aq rl link old new before id inside made = record {
   bit = made.term;
+  variables = from_register old new before rs1 1 id _ inside made;
   meets = λ w seen joined h.
       let value : value_at w new id ≡ 1 - bit_of (may_use image (register seen.local rs1)) = made.value w ∙ ap (λ v. 1 - bit_of (may_use image v)) (h.stand.values rs1 inside) in
       noted_as (value_at w new id) cause.AmoFault _ _ (amo_outcome image w p op rd rs1 rs2 aq rl (note.Faulted cause.AmoFault) joined seen)
@@ -205,6 +211,7 @@ pub jalr_faults : (image : Layout) (p : Pos) (pc rd rs1 : ℕ) (offset : ℤ) (l
 unfolding act
 jalr_faults image p pc rd rs1 offset link old new before id inside made = record {
   bit = made.term;
+  variables = from_register old new before rs1 1 id _ inside made;
   meets = λ w seen joined h.
       let target = plus_offset (register seen.local rs1) offset / 2 * 2 in
       missed (value_at w new id) target (with_register seen.local rd (next_pc seen.local)) (is_aligned target)
@@ -222,6 +229,7 @@ pub branch_faults : (image : Layout) (p : Pos) (pc : ℕ) (op : BranchOp) (rs1 r
 unfolding act
 branch_faults image p pc op rs1 rs2 offset link old new before id off says = record {
   bit = says.bit;
+  variables = says.variables;
   meets = λ w seen joined h.
       let one = says.holds w seen.local h.stand in
       let two = missed_branch seen.local (plus_offset seen.local.pc offset) (taken_of op (register seen.local rs1) (register seen.local rs2)) (ap (λ n. is_aligned (plus_offset n offset)) h.at ∙ off) in
@@ -318,10 +326,11 @@ faults_anyway local heard fault pc (instr.StoreConditional rd rs1 rs2 aq rl) fix
 faults_anyway local heard fault pc (instr.Amo op rd rs1 rs2 aq rl) fixed at h = absurd fixed
 
 pub fixed_faults : (image : Layout) (p : Pos) (pc : ℕ) (instruction : Instr) (fault : Cause) (link : Option ℕ) (old new : List Shape) (before : List TermId) (id : ℕ) → IsFixed instruction
-    → may_fault fault pc (Ok instruction) ≡ true → IsTerm new 1 id → ((w : Assignment) → value_at w new id ≡ 1) → IsFault image p pc instruction (note.Faulted fault) link old new before id
-fixed_faults image p pc instruction fault link old new before id fixed fits bit set = record {
-  bit = bit;
-  meets = λ w seen joined h. (λ e. faults_anyway seen.local (hears_by image w p instruction (note.Faulted fault) joined seen) fault pc instruction fixed h.at fits, λ e. set w);
+    → may_fault fault pc (Ok instruction) ≡ true → IsMade old new [] 1 (λ w. 1) id → IsFault image p pc instruction (note.Faulted fault) link old new before id
+fixed_faults image p pc instruction fault link old new before id fixed fits made = record {
+  bit = made.term;
+  variables = λ width number there. absurd (made.occurs width number there);
+  meets = λ w seen joined h. (λ e. faults_anyway seen.local (hears_by image w p instruction (note.Faulted fault) joined seen) fault pc instruction fixed h.at fits, λ e. made.value w);
 }
 
 -- ---- by the instruction that stands at the place

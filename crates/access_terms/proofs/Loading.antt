@@ -1,5 +1,5 @@
 -- A load.
-use Rattle.std.proofs.Common.{◌≡◌, ℕ, ◌^◌, ◌<◌, ◌≤◌, false, List, [], ◌∷◌, length, refl, ◌∙◌, ap, inr, arith}
+use Rattle.std.proofs.Common.{◌≡◌, ℕ, ◌^◌, ◌<◌, ◌≤◌, false, List, [], ◌∷◌, length, refl, ◌∙◌, ap, inl, inr, arith}
 use Rattle.std.specs.Prelude.{ℤ, Some, None}
 use Rattle.elf_image.specs.Layout.{Layout}
 use Rattle.elf_image.specs.Memory.{all_readable, number_of, opening_cells, writes_of}
@@ -28,7 +28,7 @@ use Rattle.access_terms.specs.declared.right.Right.TheVariants.{Read}
 use Rattle.access_terms.specs.Rights.{all_allow}
 use Rattle.access_terms.proofs.Allowing.{all_read}
 use Rattle.access_terms.proofs.Outcomes.{given_bytes, load_outcome}
-use Rattle.access_terms.proofs.Own.{AreRead, IsKnown, IsValueRead, from_register, of_constant}
+use Rattle.access_terms.proofs.Own.{AreRead, IsConstantBit, IsValueRead, byte_read, from_register, of_constant}
 use Rattle.access_terms.proofs.Writing.{nothing_written}
 use Rattle.access_terms.proofs.Works.{stands_put, step_by, variables_put, works_same, works_where}
 
@@ -61,10 +61,11 @@ pub load_step : (image : Layout) (p : Pos) (op : LoadOp) (rd rs1 : ℕ) (offset 
     → Grows old new → AreRegisters old before → rs1 < 32
     → IsMade old new (term_of before rs1 ∷ []) 32 (λ w. plus_offset (value_at w old (term_of before rs1)) offset) address.number
     → IsMade old new (term_of before rs1 ∷ []) 1 (λ w. bit_of (all_allow Read (opening_cells image) (plus_offset (value_at w old (term_of before rs1)) offset) (load_size op))) constraint.number
-    → AreRead p new (load_size op) reads → IsValueRead p new (load_size op) 32 (λ bytes. extended op (number_of bytes)) value → IsKnown new false guard.number → Puts new before after rd value
+    → AreRead p new (load_size op) reads → IsValueRead p new (load_size op) 32 (λ bytes. extended op (number_of bytes)) value → IsConstantBit new false guard.number → Puts new before after rd value
     → IsPlainStep image p (instr.Load op rd rs1 offset) old new before after (reading p constraint address guard reads)
-load_step image p op rd rs1 offset old new before after address constraint guard value reads grows are inside at allowed read is known puts pc link =
+load_step image p op rd rs1 offset old new before after address constraint guard value reads grows are inside at allowed read is fixed puts pc link =
     step_by image p pc (instr.Load op rd rs1 offset) note.Nothing link old new before after (reading p constraint address guard reads) allowed.term
+    (λ width number there. inl (from_register old new before rs1 1 constraint.number _ inside allowed width number there))
     (λ w seen joined h.
     let local = seen.local in
     let stand = h.stand in
@@ -78,18 +79,21 @@ load_step image p op rd rs1 offset old new before after address constraint guard
     (works_where w new after (reading p constraint address guard reads) _ (instr.Load op rd rs1 offset) local (onward (with_register local rd number))
     (all_readable (opening_cells image) (plus_offset (register local rs1) offset) (load_size op)) [] cause.LoadFault refl permitted
     (stands_put w new before after rd value number local puts (stand_stays w old new before local grows are stand) (is.value w))
-    (load_shows w new p op rd rs1 offset address guard constraint reads local (onward (with_register local rd number)) place read.count (known.value w))))
+    (load_shows w new p op rd rs1 offset address guard constraint reads local (onward (with_register local rd number)) place read.count (fixed.value w))))
     refl
     (record {
       pos = refl;
       link = refl;
       address = at.term;
       address_from = from_register old new before rs1 32 address.number _ inside at;
-      guard = known.node;
-      guard_bit = known.term;
-      guard_from = λ width number there. absurd (of_constant new guard.number 1 0 known.node width number there);
+      guard = fixed.node;
+      guard_bit = fixed.term;
+      guard_from = λ width number there. absurd (of_constant new guard.number 1 0 fixed.node width number there);
+      read_many = read.count;
       reads = read.variables;
+      write_many = refl;
       writes = λ k d h. absurd (omega (arith, h));
       writes_from = λ k d h. absurd (omega (arith, h));
     })
-    (variables_put p old new before after rd value grows are puts (λ width number there. inr (is.variables width number there)))
+    (variables_put (reading p constraint address guard reads).access old new before after rd value grows are puts
+    (λ width number there. inr (inl (byte_read p new (load_size op) reads read width number (is.variables width number there)))))

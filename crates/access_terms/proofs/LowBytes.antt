@@ -1,7 +1,7 @@
 -- The low bytes of a word, one after another.
 use Rattle.std.proofs.Common.{◌≡◌, ℕ, zero, suc, ◌+◌, ◌*◌, ◌/◌, ◌%◌, ◌^◌, List, [], ◌∷◌, ◌++◌, refl, sym, ◌∙◌, ap, inl, inr, arith}
 use Rattle.std.specs.Prelude.{slice_index_or}
-use Rattle.std.proofs.lemmas.List.{map-append}
+use Rattle.std.proofs.lemmas.List.{length-append, map-append}
 use Rattle.std.proofs.lemmas.Nat.{pow-add}
 use Rattle.std.proofs.Math.Nat.{div-div-eq-div-mul}
 use Rattle.std.proofs.lemmas.List.Elements.{All-push}
@@ -41,11 +41,12 @@ values_stay w old new (id ∷ ids) grows are =
 -- ---- the loop
 
 pub low_none : (nodes : List Shape) (word : ℕ) → AreLowBytes nodes nodes word 0 []
-low_none nodes word = record { bytes = λ k d h. absurd (omega (arith, h)); values = λ w. refl; variables = λ k d h. absurd (omega (arith, h)) }
+low_none nodes word = record { many = refl; bytes = λ k d h. absurd (omega (arith, h)); values = λ w. refl; variables = λ k d h. absurd (omega (arith, h)) }
 
 pub low_more : (old mid new : List Shape) (word i : ℕ) (ids : List TermId) (id : TermId) → Grows old mid → Grows mid new → IsTerm old 32 word → AreLowBytes old mid word i ids
     → IsMade mid new (word ∷ []) 8 (λ w. value_at w mid word / 2 ^ (8 * i) % 2 ^ 8) id.number → AreLowBytes old new word (i + 1) (ids ++ id ∷ [])
 low_more old mid new word i ids id first second is are made = record {
+  many = length-append ids (id ∷ []) ∙ ap (λ n. n + 1) are.many;
   bytes = All-push (λ (t : TermId). IsTerm new 8 t.number) ids id (bytes_stay mid new ids second are.bytes) made.term;
   values = λ w.
       let v = value_at w old word in

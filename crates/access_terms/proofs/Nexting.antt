@@ -59,3 +59,10 @@ pub next_plain : (image : Layout) (p : Pos) (pc : ℕ) (one instruction : Instr)
     → IfOk result (λ stepped. IsPlainStep image p instruction old new before after stepped) → IfOk result (λ stepped. IsStep image p pc one shown link old new before after stepped)
 next_plain image p pc one instruction shown link old new before after result is goes leads step =
     next_of image p pc one instruction shown link old new before after result is goes leads (IfOk-weaker result _ _ (λ stepped h. h pc link) step)
+
+-- of an instruction that asks a link
+pub next_linked : (image : Layout) (p : Pos) (pc : ℕ) (one instruction : Instr) (shown : Note) (link : Option ℕ) (old new : List Shape) (before after : List TermId) (result : Result Stepped Memory)
+    → one ≡ instruction → transfer_of pc instruction ≡ transfer.Next → is_some (goes_to pc (transfer_of pc one) shown) ≡ true
+    → IfOk result (λ stepped. (any : ℕ) → IsStep image p any instruction note.Nothing link old new before after stepped) → IfOk result (λ stepped. IsStep image p pc one shown link old new before after stepped)
+next_linked image p pc one instruction shown link old new before after result is goes leads step =
+    next_of image p pc one instruction shown link old new before after result is goes leads (IfOk-weaker result _ _ (λ stepped h. h pc) step)

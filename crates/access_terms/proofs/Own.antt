@@ -1,5 +1,5 @@
 -- The variables of a step: what its access reads, and the outcome of a store-conditional.
-use Rattle.std.proofs.Common.{◌≡◌, Bool, ℕ, suc, ◌+◌, ◌^◌, ◌<◌, ◌≤◌, List, [], ◌∷◌, length, map, refl, sym, ◌∙◌, ap, subst, inl, inr, arith}
+use Rattle.std.proofs.Common.{◌≡◌, Bool, ℕ, suc, ◌+◌, ◌<◌, ◌≤◌, List, [], ◌∷◌, length, map, refl, sym, ◌∙◌, ap, subst, inl, inr, arith}
 use Rattle.std.specs.Prelude.{Contains, Some, slice_get, slice_index_or}
 use Rattle.std.specs.List.{range_with_len}
 use Rattle.std.proofs.lemmas.Option.{same_Some}
@@ -16,7 +16,7 @@ use Rattle.step_terms.proofs.Making.{stays}
 use Rattle.thread_terms.specs.Given.{given_by}
 use Rattle.thread_terms.specs.Standing.{AreRegisters, OccursInRegisters, term_of}
 use Rattle.thread_terms.specs.Steps.{HasVariables}
-use Rattle.thread_terms.specs.Variables.{AreVariables, IsOf, IsVariable, byte_number}
+use Rattle.thread_terms.specs.Variables.{AreVariables, IsByteOf, IsVariable, byte_number}
 use Rattle.access_terms.proofs.Outcomes.{given_bytes}
 
 abbrev no_term : TermId
@@ -64,7 +64,6 @@ older_registers old new before grows are width number there = record {
 -- a term for each of so many bytes that a step reads
 pub record AreRead (p : Pos) (nodes : List Shape) (size : ℕ) (ids : List TermId) : Type 0 where
   pub count : length ids ≡ size
-  pub few : size ≤ 2 ^ 8
   pub variables : AreVariables nodes p ids
 
 -- from the byte at `first` on
@@ -84,13 +83,14 @@ values_from w p nodes first (id ∷ ids) are =
     ap (λ v. v ∷ values w nodes ids) ((are 0 (omega arith)).value w ∙ ap (λ n. (given_by w).bytes p.thread p.step n) here)
     ∙ ap (λ l. (given_by w).bytes p.thread p.step first ∷ l) (values_from w p nodes (first + 1) ids (later_bytes p nodes first id ids are))
 
-among_from : (p : Pos) (nodes : List Shape) (first : ℕ) (ids : List TermId) → first + length ids ≤ 2 ^ 8 → AreFrom p nodes first ids
-    → (width number : ℕ) → OccursAmong nodes width number (numbers ids) → IsOf p width number
-among_from p nodes first [] few are width number none = absurd none
-among_from p nodes first (id ∷ ids) few are width number (inl there) =
+among_from : (p : Pos) (nodes : List Shape) (first count : ℕ) (ids : List TermId) → first + length ids ≤ count → AreFrom p nodes first ids
+    → (width number : ℕ) → OccursAmong nodes width number (numbers ids) → IsByteOf p count width number
+among_from p nodes first count [] all are width number none = absurd none
+among_from p nodes first count (id ∷ ids) all are width number (inl there) =
     let same = of_variable nodes id.number 8 (byte_number p.thread p.step (first + 0)) (are 0 (omega arith)).node width number there in
-    inl (same.0, (first + 0, omega (arith, few), same.1))
-among_from p nodes first (id ∷ ids) few are width number (inr more) = among_from p nodes (first + 1) ids (omega (arith, few)) (later_bytes p nodes first id ids are) width number more
+    (same.0, (first + 0, omega (arith, all), same.1))
+among_from p nodes first count (id ∷ ids) all are width number (inr more) =
+    among_from p nodes (first + 1) count ids (omega (arith, all)) (later_bytes p nodes first id ids are) width number more
 
 from_first : (p : Pos) (nodes : List Shape) (ids : List TermId) → AreVariables nodes p ids → AreFrom p nodes 0 ids
 from_first p nodes ids are index h = let same : index ≡ 0 + index = omega arith in subst (λ n. IsVariable nodes 8 (byte_number p.thread p.step n) (slice_index_or ids index no_term).number) same (are index h)
@@ -102,10 +102,16 @@ pub read_values : (w : Assignment) (p : Pos) (nodes : List Shape) (count : ℕ) 
 read_values w p nodes count ids are =
     values_from w p nodes 0 ids (from_first p nodes ids are.variables) ∙ ap (λ n. map ((given_by w).bytes p.thread p.step) (range_with_len 0 n)) are.count
 
-pub among_read : (p : Pos) (nodes : List Shape) (count : ℕ) (ids : List TermId) → AreRead p nodes count ids → (width number : ℕ) → OccursAmong nodes width number (numbers ids) → IsOf p width number
-among_read p nodes count ids are width number there = among_from p nodes 0 ids (omega (arith, are.count, are.few)) (from_first p nodes ids are.variables) width number there
+pub among_read : (p : Pos) (nodes : List Shape) (count : ℕ) (ids : List TermId) → AreRead p nodes count ids
+    → (width number : ℕ) → OccursAmong nodes width number (numbers ids) → IsByteOf p count width number
+among_read p nodes count ids are width number there = among_from p nodes 0 count ids (omega (arith, are.count)) (from_first p nodes ids are.variables) width number there
 
-variable_stays : (old new : List Shape) (bits named id : ℕ) → Grows old new → IsVariable old bits named id → IsVariable new bits named id
+-- a byte that is read is one of those that there are terms for
+pub byte_read : (p : Pos) (nodes : List Shape) (count : ℕ) (ids : List TermId) → AreRead p nodes count ids
+    → (width number : ℕ) → IsByteOf p count width number → IsByteOf p (length ids) width number
+byte_read p nodes count ids are width number is = subst (λ n. IsByteOf p n width number) (sym are.count) is
+
+pub variable_stays : (old new : List Shape) (bits named id : ℕ) → Grows old new → IsVariable old bits named id → IsVariable new bits named id
 variable_stays old new bits named id grows is = record {
   term = stays old new bits id grows is.term;
   node = grows.terms.node id is.term.inside ∙ is.node;
@@ -115,7 +121,6 @@ variable_stays old new bits named id grows is = record {
 pub read_stays : (p : Pos) (old new : List Shape) (count : ℕ) (ids : List TermId) → Grows old new → AreRead p old count ids → AreRead p new count ids
 read_stays p old new count ids grows are = record {
   count = are.count;
-  few = are.few;
   variables = λ index h. variable_stays old new 8 (byte_number p.thread p.step index) (slice_index_or ids index no_term).number grows (are.variables index h);
 }
 
@@ -123,7 +128,7 @@ read_stays p old new count ids grows are = record {
 pub record IsValueRead (p : Pos) (nodes : List Shape) (count bits : ℕ) (f : List ℕ → ℕ) (id : ℕ) : Type 0 where
   pub term : IsTerm nodes bits id
   pub value : (w : Assignment) → value_at w nodes id ≡ f (given_bytes w p count)
-  pub variables : HasVariables (IsOf p) nodes id
+  pub variables : HasVariables (IsByteOf p count) nodes id
 
 pub value_read : (p : Pos) (old new : List Shape) (count bits : ℕ) (f : List ℕ → ℕ) (ids : List TermId) (id : ℕ) → AreRead p old count ids → IsMade old new (numbers ids) bits (λ w. f (values w old ids)) id → IsValueRead p new count bits f id
 value_read p old new count bits f ids id are made = record {
@@ -139,19 +144,12 @@ value_stays p old new count bits f id grows is = record {
   variables = λ width number there. is.variables width number (grows.variables width number id is.term.inside there);
 }
 
--- ---- bits that are known
+-- ---- constant bits
 
-pub record IsKnown (nodes : List Shape) (test : Bool) (id : ℕ) : Type 0 where
+pub record IsConstantBit (nodes : List Shape) (test : Bool) (id : ℕ) : Type 0 where
   pub node : slice_get nodes id ≡ Some (Const 1 (bit_of test))
   pub term : IsTerm nodes 1 id
   pub value : (w : Assignment) → value_at w nodes id ≡ bit_of test
 
-pub known_stays : (old new : List Shape) (test : Bool) (id : ℕ) → Grows old new → IsKnown old test id → IsKnown new test id
-known_stays old new test id grows is = record {
-  node = grows.terms.node id is.term.inside ∙ is.node;
-  term = stays old new 1 id grows is.term;
-  value = λ w. grows.terms.value w id is.term.inside ∙ is.value w;
-}
-
-pub known_made : (old new : List Shape) (test : Bool) (id : ℕ) → slice_get new id ≡ Some (Const 1 (bit_of test)) → IsMade old new [] 1 (λ w. bit_of test) id → IsKnown new test id
-known_made old new test id node made = record { node = node; term = made.term; value = made.value }
+pub constant_made : (old new : List Shape) (test : Bool) (id : ℕ) → slice_get new id ≡ Some (Const 1 (bit_of test)) → IsMade old new [] 1 (λ w. bit_of test) id → IsConstantBit new test id
+constant_made old new test id node made = record { node = node; term = made.term; value = made.value }

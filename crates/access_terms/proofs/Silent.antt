@@ -26,15 +26,15 @@ use Rattle.rv_model.specs.Values.{alu_of, imm_of, plus_offset, taken_of}
 use Rattle.rv_model.specs.Walk.{goes_to, transfer_of}
 use Rattle.bv_terms.specs.declared.node.TermId.{TermId}
 use Rattle.bv_terms.specs.Shapes.{Shape}
-use Rattle.bv_terms.specs.Values.{Assignment, value_at}
-use Rattle.step_terms.specs.Made.{Grows, IsTerm}
+use Rattle.bv_terms.specs.Values.{Assignment}
+use Rattle.step_terms.specs.Made.{Grows, IsMade}
 use Rattle.step_terms.proofs.Making.{stays}
 use Rattle.thread_terms.specs.declared.access.Stepped.{Stepped}
 use Rattle.thread_terms.specs.Given.{hears_by}
 use Rattle.thread_terms.specs.Standing.{AreRegisters, Says, StandFor, Writes}
 use Rattle.thread_terms.specs.Steps.{IfGoes, IsStep}
 use Rattle.thread_terms.proofs.Standing.{stand_stays}
-use Rattle.access_terms.specs.Alone.{Constrains, Follows, target_of, was_taken}
+use Rattle.access_terms.specs.Alone.{Constrains, GoesOn, target_of, was_taken}
 use Rattle.access_terms.proofs.Own.{older_registers}
 use Rattle.access_terms.proofs.Works.{step_by}
 
@@ -49,16 +49,16 @@ goes_aligned w nodes registers local target writes shown fault true stand = stan
 goes_aligned w nodes registers local target writes shown fault false stand = tt
 
 -- a register is written with a value of the registers before
-pub follows_lui : (old new : List Shape) (before after : List TermId) (pc rd imm : ℕ) → Writes old new before after rd (λ _. imm) → Follows old new before after pc (instr.Lui rd imm)
+pub goes_on_lui : (old new : List Shape) (before after : List TermId) (pc rd imm : ℕ) → Writes old new before after rd (λ _. imm) → GoesOn old new before after pc (instr.Lui rd imm)
 unfolding act
-follows_lui old new before after pc rd imm writes = record {
+goes_on_lui old new before after pc rd imm writes = record {
   stands = λ w local heard at stand. stands_at w new after (with_register local rd imm) _ (writes.stands w local stand);
   variables = writes.variables;
 }
 
-pub follows_auipc : (old new : List Shape) (before after : List TermId) (pc rd imm : ℕ) → Writes old new before after rd (λ _. (pc + imm) % 2 ^ 32) → Follows old new before after pc (instr.Auipc rd imm)
+pub goes_on_auipc : (old new : List Shape) (before after : List TermId) (pc rd imm : ℕ) → Writes old new before after rd (λ _. (pc + imm) % 2 ^ 32) → GoesOn old new before after pc (instr.Auipc rd imm)
 unfolding act
-follows_auipc old new before after pc rd imm writes = record {
+goes_on_auipc old new before after pc rd imm writes = record {
   stands = λ w local heard at stand.
       let value = (local.pc + imm) % 2 ^ 32 in
       let same : (pc + imm) % 2 ^ 32 ≡ value = ap (λ n. (n + imm) % 2 ^ 32) (sym at) in
@@ -66,18 +66,18 @@ follows_auipc old new before after pc rd imm writes = record {
   variables = writes.variables;
 }
 
-pub follows_jal : (old new : List Shape) (before after : List TermId) (pc rd : ℕ) (offset : ℤ) → Writes old new before after rd (λ _. word_after pc) → Follows old new before after pc (instr.Jal rd offset)
+pub goes_on_jal : (old new : List Shape) (before after : List TermId) (pc rd : ℕ) (offset : ℤ) → Writes old new before after rd (λ _. word_after pc) → GoesOn old new before after pc (instr.Jal rd offset)
 unfolding act
-follows_jal old new before after pc rd offset writes = record {
+goes_on_jal old new before after pc rd offset writes = record {
   stands = λ w local heard at stand.
       goes_aligned w new after (with_register local rd (next_pc local)) (plus_offset local.pc offset) [] note.Nothing cause.Misaligned (is_aligned (plus_offset local.pc offset))
       (subst (λ n. StandFor w new after (with_register local rd (word_after n))) (sym at) (writes.stands w local stand));
   variables = writes.variables;
 }
 
-pub follows_jalr : (old new : List Shape) (before after : List TermId) (pc rd rs1 : ℕ) (offset : ℤ) → Writes old new before after rd (λ _. word_after pc) → Follows old new before after pc (instr.Jalr rd rs1 offset)
+pub goes_on_jalr : (old new : List Shape) (before after : List TermId) (pc rd rs1 : ℕ) (offset : ℤ) → Writes old new before after rd (λ _. word_after pc) → GoesOn old new before after pc (instr.Jalr rd rs1 offset)
 unfolding act
-follows_jalr old new before after pc rd rs1 offset writes = record {
+goes_on_jalr old new before after pc rd rs1 offset writes = record {
   stands = λ w local heard at stand.
       let target = plus_offset (register local rs1) offset / 2 * 2 in
       goes_aligned w new after (with_register local rd (next_pc local)) target [] (note.Jump target) cause.Misaligned (is_aligned target)
@@ -85,24 +85,24 @@ follows_jalr old new before after pc rd rs1 offset writes = record {
   variables = writes.variables;
 }
 
-pub follows_imm : (old new : List Shape) (before after : List TermId) (pc : ℕ) (op : ImmOp) (rd rs1 : ℕ) (imm : ℤ) → Writes old new before after rd (λ local. imm_of op (register local rs1) imm) → Follows old new before after pc (instr.Imm op rd rs1 imm)
+pub goes_on_imm : (old new : List Shape) (before after : List TermId) (pc : ℕ) (op : ImmOp) (rd rs1 : ℕ) (imm : ℤ) → Writes old new before after rd (λ local. imm_of op (register local rs1) imm) → GoesOn old new before after pc (instr.Imm op rd rs1 imm)
 unfolding act
-follows_imm old new before after pc op rd rs1 imm writes = record {
+goes_on_imm old new before after pc op rd rs1 imm writes = record {
   stands = λ w local heard at stand. stands_at w new after (with_register local rd (imm_of op (register local rs1) imm)) _ (writes.stands w local stand);
   variables = writes.variables;
 }
 
-pub follows_op : (old new : List Shape) (before after : List TermId) (pc : ℕ) (op : AluOp) (rd rs1 rs2 : ℕ) → Writes old new before after rd (λ local. alu_of op (register local rs1) (register local rs2)) → Follows old new before after pc (instr.Op op rd rs1 rs2)
+pub goes_on_op : (old new : List Shape) (before after : List TermId) (pc : ℕ) (op : AluOp) (rd rs1 rs2 : ℕ) → Writes old new before after rd (λ local. alu_of op (register local rs1) (register local rs2)) → GoesOn old new before after pc (instr.Op op rd rs1 rs2)
 unfolding act
-follows_op old new before after pc op rd rs1 rs2 writes = record {
+goes_on_op old new before after pc op rd rs1 rs2 writes = record {
   stands = λ w local heard at stand. stands_at w new after (with_register local rd (alu_of op (register local rs1) (register local rs2))) _ (writes.stands w local stand);
   variables = writes.variables;
 }
 
 -- the registers stay
-pub follows_branch : (nodes : List Shape) (before : List TermId) (pc : ℕ) (op : BranchOp) (rs1 rs2 : ℕ) (offset : ℤ) → Follows nodes nodes before before pc (instr.Branch op rs1 rs2 offset)
+pub goes_on_branch : (nodes : List Shape) (before : List TermId) (pc : ℕ) (op : BranchOp) (rs1 rs2 : ℕ) (offset : ℤ) → GoesOn nodes nodes before before pc (instr.Branch op rs1 rs2 offset)
 unfolding act
-follows_branch nodes before pc op rs1 rs2 offset = record {
+goes_on_branch nodes before pc op rs1 rs2 offset = record {
   stands = λ w local heard at stand. either_way w local stand (plus_offset local.pc offset) (taken_of op (register local rs1) (register local rs2));
   variables = λ width number there. there;
 }
@@ -111,41 +111,41 @@ follows_branch nodes before pc op rs1 rs2 offset = record {
     either_way w local stand target true = goes_aligned w nodes before local target [] (note.Branch true) cause.Misaligned (is_aligned target) stand
     either_way w local stand target false = stands_at w nodes before local (next_pc local) stand
 
-pub follows_fence : (nodes : List Shape) (before : List TermId) (pc rd rs1 imm : ℕ) → Follows nodes nodes before before pc (instr.Fence rd rs1 imm)
+pub goes_on_fence : (nodes : List Shape) (before : List TermId) (pc rd rs1 imm : ℕ) → GoesOn nodes nodes before before pc (instr.Fence rd rs1 imm)
 unfolding act
-follows_fence nodes before pc rd rs1 imm = record {
+goes_on_fence nodes before pc rd rs1 imm = record {
   stands = λ w local heard at stand. stands_at w nodes before local (next_pc local) stand;
   variables = λ width number there. there;
 }
 
-pub follows_ebreak : (nodes : List Shape) (before : List TermId) (pc : ℕ) → Follows nodes nodes before before pc instr.Ebreak
+pub goes_on_ebreak : (nodes : List Shape) (before : List TermId) (pc : ℕ) → GoesOn nodes nodes before before pc instr.Ebreak
 unfolding act
-follows_ebreak nodes before pc = record { stands = λ w local heard at stand. tt; variables = λ width number there. there }
+goes_on_ebreak nodes before pc = record { stands = λ w local heard at stand. tt; variables = λ width number there. there }
 
 -- the other instructions write no register
-pub follows_other : (nodes : List Shape) (before : List TermId) (pc : ℕ) (instruction : Instr) → IsAlone instruction
+pub goes_on_other : (nodes : List Shape) (before : List TermId) (pc : ℕ) (instruction : Instr) → IsAlone instruction
     → ((rd imm : ℕ) → instruction ≡ instr.Lui rd imm → ⊥)
     → ((rd imm : ℕ) → instruction ≡ instr.Auipc rd imm → ⊥)
     → ((rd : ℕ) (offset : ℤ) → instruction ≡ instr.Jal rd offset → ⊥)
     → ((rd rs1 : ℕ) (offset : ℤ) → instruction ≡ instr.Jalr rd rs1 offset → ⊥)
     → ((op : ImmOp) (rd rs1 : ℕ) (imm : ℤ) → instruction ≡ instr.Imm op rd rs1 imm → ⊥)
     → ((op : AluOp) (rd rs1 rs2 : ℕ) → instruction ≡ instr.Op op rd rs1 rs2 → ⊥)
-    → Follows nodes nodes before before pc instruction
-follows_other nodes before pc (instr.Lui rd imm) alone no_lui no_auipc no_jal no_jalr no_imm no_op = absurd (no_lui rd imm refl)
-follows_other nodes before pc (instr.Auipc rd imm) alone no_lui no_auipc no_jal no_jalr no_imm no_op = absurd (no_auipc rd imm refl)
-follows_other nodes before pc (instr.Jal rd offset) alone no_lui no_auipc no_jal no_jalr no_imm no_op = absurd (no_jal rd offset refl)
-follows_other nodes before pc (instr.Jalr rd rs1 offset) alone no_lui no_auipc no_jal no_jalr no_imm no_op = absurd (no_jalr rd rs1 offset refl)
-follows_other nodes before pc (instr.Branch op rs1 rs2 offset) alone no_lui no_auipc no_jal no_jalr no_imm no_op = follows_branch nodes before pc op rs1 rs2 offset
-follows_other nodes before pc (instr.Load op rd rs1 offset) alone no_lui no_auipc no_jal no_jalr no_imm no_op = absurd alone
-follows_other nodes before pc (instr.Store op rs1 rs2 offset) alone no_lui no_auipc no_jal no_jalr no_imm no_op = absurd alone
-follows_other nodes before pc (instr.Imm op rd rs1 imm) alone no_lui no_auipc no_jal no_jalr no_imm no_op = absurd (no_imm op rd rs1 imm refl)
-follows_other nodes before pc (instr.Op op rd rs1 rs2) alone no_lui no_auipc no_jal no_jalr no_imm no_op = absurd (no_op op rd rs1 rs2 refl)
-follows_other nodes before pc (instr.Fence rd rs1 imm) alone no_lui no_auipc no_jal no_jalr no_imm no_op = follows_fence nodes before pc rd rs1 imm
-follows_other nodes before pc instr.Ecall alone no_lui no_auipc no_jal no_jalr no_imm no_op = absurd alone
-follows_other nodes before pc instr.Ebreak alone no_lui no_auipc no_jal no_jalr no_imm no_op = follows_ebreak nodes before pc
-follows_other nodes before pc (instr.LoadReserved rd rs1 aq rl) alone no_lui no_auipc no_jal no_jalr no_imm no_op = absurd alone
-follows_other nodes before pc (instr.StoreConditional rd rs1 rs2 aq rl) alone no_lui no_auipc no_jal no_jalr no_imm no_op = absurd alone
-follows_other nodes before pc (instr.Amo op rd rs1 rs2 aq rl) alone no_lui no_auipc no_jal no_jalr no_imm no_op = absurd alone
+    → GoesOn nodes nodes before before pc instruction
+goes_on_other nodes before pc (instr.Lui rd imm) alone no_lui no_auipc no_jal no_jalr no_imm no_op = absurd (no_lui rd imm refl)
+goes_on_other nodes before pc (instr.Auipc rd imm) alone no_lui no_auipc no_jal no_jalr no_imm no_op = absurd (no_auipc rd imm refl)
+goes_on_other nodes before pc (instr.Jal rd offset) alone no_lui no_auipc no_jal no_jalr no_imm no_op = absurd (no_jal rd offset refl)
+goes_on_other nodes before pc (instr.Jalr rd rs1 offset) alone no_lui no_auipc no_jal no_jalr no_imm no_op = absurd (no_jalr rd rs1 offset refl)
+goes_on_other nodes before pc (instr.Branch op rs1 rs2 offset) alone no_lui no_auipc no_jal no_jalr no_imm no_op = goes_on_branch nodes before pc op rs1 rs2 offset
+goes_on_other nodes before pc (instr.Load op rd rs1 offset) alone no_lui no_auipc no_jal no_jalr no_imm no_op = absurd alone
+goes_on_other nodes before pc (instr.Store op rs1 rs2 offset) alone no_lui no_auipc no_jal no_jalr no_imm no_op = absurd alone
+goes_on_other nodes before pc (instr.Imm op rd rs1 imm) alone no_lui no_auipc no_jal no_jalr no_imm no_op = absurd (no_imm op rd rs1 imm refl)
+goes_on_other nodes before pc (instr.Op op rd rs1 rs2) alone no_lui no_auipc no_jal no_jalr no_imm no_op = absurd (no_op op rd rs1 rs2 refl)
+goes_on_other nodes before pc (instr.Fence rd rs1 imm) alone no_lui no_auipc no_jal no_jalr no_imm no_op = goes_on_fence nodes before pc rd rs1 imm
+goes_on_other nodes before pc instr.Ecall alone no_lui no_auipc no_jal no_jalr no_imm no_op = absurd alone
+goes_on_other nodes before pc instr.Ebreak alone no_lui no_auipc no_jal no_jalr no_imm no_op = goes_on_ebreak nodes before pc
+goes_on_other nodes before pc (instr.LoadReserved rd rs1 aq rl) alone no_lui no_auipc no_jal no_jalr no_imm no_op = absurd alone
+goes_on_other nodes before pc (instr.StoreConditional rd rs1 rs2 aq rl) alone no_lui no_auipc no_jal no_jalr no_imm no_op = absurd alone
+goes_on_other nodes before pc (instr.Amo op rd rs1 rs2 aq rl) alone no_lui no_auipc no_jal no_jalr no_imm no_op = absurd alone
 
 -- ---- what is recorded of an instruction
 
@@ -255,10 +255,11 @@ quiet (instr.StoreConditional rd rs1 rs2 aq rl) shown pc alone still leads local
 quiet (instr.Amo op rd rs1 rs2 aq rl) shown pc alone still leads local heard at = absurd alone
 
 pub quiet_constrains : (old new : List Shape) (before : List TermId) (pc : ℕ) (instruction : Instr) (shown : Note) (id : ℕ) → IsAlone instruction → IsQuiet instruction → is_some (goes_to pc (transfer_of pc instruction) shown) ≡ true
-    → IsTerm new 1 id → ((w : Assignment) → value_at w new id ≡ 1) → Constrains old new before pc instruction shown id
-quiet_constrains old new before pc instruction shown id alone still leads bit set = record {
-  bit = bit;
-  meets = λ w local heard at stand. (λ h. quiet instruction shown pc alone still leads local heard at, λ h. set w);
+    → IsMade old new [] 1 (λ w. 1) id → Constrains old new before pc instruction shown id
+quiet_constrains old new before pc instruction shown id alone still leads made = record {
+  bit = made.term;
+  variables = λ width number there. absurd (made.occurs width number there);
+  meets = λ w local heard at stand. (λ h. quiet instruction shown pc alone still leads local heard at, λ h. made.value w);
 }
 
 jump_noted : (local : Local) (rd target recorded : ℕ) → is_aligned recorded ≡ true → (target ≡ recorded) ↔ (note_in (jumps local rd target (note.Jump target)) ≡ note.Jump recorded)
@@ -276,6 +277,7 @@ pub jump_constrains : (old new : List Shape) (before : List TermId) (pc rd rs1 :
 unfolding act
 jump_constrains old new before pc rd rs1 offset recorded id aligned says = record {
   bit = says.bit;
+  variables = says.variables;
   meets = λ w local heard at stand.
       let one = says.holds w local stand in
       let two = jump_noted local rd (plus_offset (register local rs1) offset / 2 * 2) recorded aligned in
@@ -297,6 +299,7 @@ pub branch_constrains : (old new : List Shape) (before : List TermId) (pc : ℕ)
 unfolding act
 branch_constrains old new before pc op rs1 rs2 offset recorded id aligned says = record {
   bit = says.bit;
+  variables = says.variables;
   meets = λ w local heard at stand.
       let one = says.holds w local stand in
       let two = branch_noted local (plus_offset local.pc offset) (taken_of op (register local rs1) (register local rs2)) recorded (λ e. ap (λ n. is_aligned (plus_offset n offset)) at ∙ aligned e) in
@@ -341,18 +344,19 @@ no_access (instr.Amo op rd rs1 rs2 aq rl) shown alone = absurd alone
 
 pub alone_step : (image : Layout) (p : Pos) (link : Option ℕ) (old mid new : List Shape) (before after : List TermId) (pc : ℕ) (instruction : Instr) (shown : Note) (constraint : TermId)
     → IsAlone instruction → Grows old mid → Grows mid new → AreRegisters old before
-    → Constrains old mid before pc instruction shown constraint.number → Follows mid new before after pc instruction
+    → Constrains old mid before pc instruction shown constraint.number → GoesOn mid new before after pc instruction
     → IsStep image p pc instruction shown link old new before after (record { constraint = constraint; access = None })
-alone_step image p link old mid new before after pc instruction shown constraint alone first second are constrains follows =
+alone_step image p link old mid new before after pc instruction shown constraint alone first second are constrains goes_on =
     let stepped : Stepped = record { constraint = constraint; access = None } in
     step_by image p pc instruction shown link old new before after stepped (stays mid new 1 constraint.number second constrains.bit)
+    (λ width number there. inl (constrains.variables width number (second.variables width number constraint.number constrains.bit.inside there)))
     (λ w seen joined h.
     let one = constrains.meets w seen.local (hears_by image w p instruction shown joined seen) h.at h.stand in
     let same = second.terms.value w constraint.number constrains.bit.inside in
     record {
       met = (λ e. one.0 (sym same ∙ e), λ e. same ∙ one.1 e);
-      stands = λ e. follows.stands w seen.local (hears_by image w p instruction shown joined seen) h.at (stand_stays w old mid before seen.local first are h.stand);
+      stands = λ e. goes_on.stands w seen.local (hears_by image w p instruction shown joined seen) h.at (stand_stays w old mid before seen.local first are h.stand);
       shows = λ e. tt;
     })
     (sym (no_access instruction shown alone)) tt
-    (λ width number there. inl (older_registers old mid before first are width number (follows.variables width number there)))
+    (λ width number there. inl (older_registers old mid before first are width number (goes_on.variables width number there)))

@@ -1,5 +1,5 @@
 -- A store.
-use Rattle.std.proofs.Common.{◌≡◌, ℕ, ◌<◌, ◌≤◌, true, List, [], ◌∷◌, refl, ◌∙◌, ap, arith}
+use Rattle.std.proofs.Common.{◌≡◌, ℕ, ◌<◌, ◌≤◌, true, List, [], ◌∷◌, refl, ◌∙◌, ap, inl, arith}
 use Rattle.std.specs.Prelude.{ℤ, Option, Some, None}
 use Rattle.elf_image.specs.Layout.{Layout}
 use Rattle.elf_image.specs.Memory.{all_writable, bytes_of, opening_cells, writes_of}
@@ -22,14 +22,14 @@ use Rattle.step_terms.specs.Bytes.{values}
 use Rattle.step_terms.specs.Made.{Grows, IsMade}
 use Rattle.thread_terms.specs.declared.access.Access.{Access}
 use Rattle.thread_terms.specs.declared.access.Stepped.{Stepped}
-use Rattle.thread_terms.specs.Standing.{AreRegisters, term_of}
+use Rattle.thread_terms.specs.Standing.{AreRegisters, OccursInRegisters, term_of}
 use Rattle.thread_terms.specs.Steps.{IsPlainStep, Shows}
 use Rattle.thread_terms.proofs.Standing.{stand_stays}
 use Rattle.access_terms.specs.declared.right.Right.TheVariants.{Write}
 use Rattle.access_terms.specs.Rights.{all_allow}
 use Rattle.access_terms.proofs.Allowing.{all_written}
 use Rattle.access_terms.proofs.Outcomes.{store_outcome}
-use Rattle.access_terms.proofs.Own.{IsKnown, from_register, of_constant}
+use Rattle.access_terms.proofs.Own.{IsConstantBit, from_register, of_constant}
 use Rattle.access_terms.proofs.Works.{stands_on, step_by, variables_stay, works_same, works_where}
 use Rattle.access_terms.proofs.Writing.{AreWritten, writes_where}
 
@@ -60,10 +60,11 @@ pub store_step : (image : Layout) (p : Pos) (op : StoreOp) (rs1 rs2 : ℕ) (offs
     → Grows old new → AreRegisters old before → rs1 < 32 → rs2 < 32
     → IsMade old new (term_of before rs1 ∷ []) 32 (λ w. plus_offset (value_at w old (term_of before rs1)) offset) address.number
     → IsMade old new (term_of before rs1 ∷ []) 1 (λ w. bit_of (all_allow Write (opening_cells image) (plus_offset (value_at w old (term_of before rs1)) offset) (store_size op))) constraint.number
-    → AreWritten p old new before (store_size op) (λ w. value_at w old (term_of before rs2)) writes → IsKnown new true guard.number
+    → AreWritten (OccursInRegisters old before) new (store_size op) (λ w. value_at w old (term_of before rs2)) writes → IsConstantBit new true guard.number
     → IsPlainStep image p (instr.Store op rs1 rs2 offset) old new before before (writing p constraint address guard writes None)
-store_step image p op rs1 rs2 offset old new before address constraint guard writes grows are inside inside2 at allowed written known pc link =
+store_step image p op rs1 rs2 offset old new before address constraint guard writes grows are inside inside2 at allowed written fixed pc link =
     step_by image p pc (instr.Store op rs1 rs2 offset) note.Nothing link old new before before (writing p constraint address guard writes None) allowed.term
+    (λ width number there. inl (from_register old new before rs1 1 constraint.number _ inside allowed width number there))
     (λ w seen joined h.
     let local = seen.local in
     let stand = h.stand in
@@ -77,18 +78,20 @@ store_step image p op rs1 rs2 offset old new before address constraint guard wri
     (all_writable (opening_cells image) (plus_offset (register local rs1) offset) (store_size op))
     (writes_of (plus_offset (register local rs1) offset) (bytes_of (store_size op) (register local rs2)) []) cause.StoreFault refl permitted
     (stands_on w new before local (stand_stays w old new before local grows are stand))
-    (store_shows w new p op rs1 rs2 offset address guard writes local place (written.values w ∙ ap (bytes_of (store_size op)) (stand.values rs2 inside2)) (known.value w))))
+    (store_shows w new p op rs1 rs2 offset address guard writes local place (written.values w ∙ ap (bytes_of (store_size op)) (stand.values rs2 inside2)) (fixed.value w))))
     refl
     (record {
       pos = refl;
       link = refl;
       address = at.term;
       address_from = from_register old new before rs1 32 address.number _ inside at;
-      guard = known.node;
-      guard_bit = known.term;
-      guard_from = λ width number there. absurd (of_constant new guard.number 1 1 known.node width number there);
+      guard = fixed.node;
+      guard_bit = fixed.term;
+      guard_from = λ width number there. absurd (of_constant new guard.number 1 1 fixed.node width number there);
+      read_many = refl;
       reads = λ index h. absurd (omega (arith, h));
+      write_many = written.many;
       writes = written.bytes;
-      writes_from = written.variables;
+      writes_from = λ k d h width number there. inl (written.variables k d h width number there);
     })
-    (variables_stay p old new before grows are)
+    (variables_stay (writing p constraint address guard writes None).access old new before grows are)

@@ -20,13 +20,12 @@ use Rattle.bv_terms.specs.Shapes.{Shape}
 use Rattle.bv_terms.specs.Values.{Assignment, value_at}
 use Rattle.bv_terms.specs.Variables.{Occurs}
 use Rattle.guided_walk.specs.Guided.{Seen}
-use Rattle.step_terms.specs.Bytes.{values}
 use Rattle.step_terms.specs.Made.{Grows, IsTerm}
 use Rattle.thread_terms.specs.declared.access.Access.{Access}
 use Rattle.thread_terms.specs.declared.access.Stepped.{Stepped}
 use Rattle.thread_terms.specs.Given.{outcome_by}
 use Rattle.thread_terms.specs.Standing.{AreRegisters, Puts, StandFor}
-use Rattle.thread_terms.specs.Steps.{IfGoes, IsOwn, IsStep, OfRegistersOr, RegistersHave, Shows, StandsBefore}
+use Rattle.thread_terms.specs.Steps.{HasVariables, IfGoes, IsOwn, IsStep, OfRegistersOr, RegistersHave, Shows, StandsBefore}
 use Rattle.access_terms.proofs.Own.{older_registers}
 
 -- what a step with an access adds
@@ -44,12 +43,13 @@ pub record Works (w : Assignment) (new : List Shape) (after : List TermId) (step
   pub shows : note_in outcome ≡ shown → IfSome stepped.access (λ (access : Access). Shows w new access instruction local outcome)
 
 pub step_by : (image : Layout) (p : Pos) (pc : ℕ) (instruction : Instr) (shown : Note) (link : Option ℕ) (old new : List Shape) (before after : List TermId) (stepped : Stepped)
-    → IsTerm new 1 stepped.constraint.number
+    → IsTerm new 1 stepped.constraint.number → HasVariables (OfRegistersOr old before stepped.access) new stepped.constraint.number
     → ((w : Assignment) (seen : Seen) (joined : ℕ) → StandsBefore w old before pc link seen → Works w new after stepped instruction shown seen.local (outcome_by image w p instruction shown joined seen))
-    → is_some stepped.access ≡ is_access instruction shown → IfSome stepped.access (IsOwn p instruction shown link old new before) → RegistersHave (OfRegistersOr p old before) new after
+    → is_some stepped.access ≡ is_access instruction shown → IfSome stepped.access (IsOwn p instruction shown link old new before) → RegistersHave (OfRegistersOr old before stepped.access) new after
     → IsStep image p pc instruction shown link old new before after stepped
-step_by image p pc instruction shown link old new before after stepped bit works accesses own variables joined = record {
+step_by image p pc instruction shown link old new before after stepped bit from works accesses own variables joined = record {
   bit = bit;
+  constraint_from = from;
   meets = λ w seen h. (works w seen (joined w) h).met;
   stands = λ w seen h. (works w seen (joined w) h).stands;
   shows = λ w seen h. (works w seen (joined w) h).shows;
@@ -101,12 +101,13 @@ pub stands_put : (w : Assignment) (nodes : List Shape) (before after : List Term
 stands_put w nodes before after rd id value local puts stand is =
     stands_on w nodes after (with_register local rd value) (subst (λ v. StandFor w nodes after (with_register local rd v)) is (puts.stands w local stand))
 
-pub variables_put : (p : Pos) (old new : List Shape) (before after : List TermId) (rd id : ℕ) → Grows old new → AreRegisters old before → Puts new before after rd id
-    → ((width number : ℕ) → Occurs new width number id → OfRegistersOr p old before width number) → RegistersHave (OfRegistersOr p old before) new after
-variables_put p old new before after rd id grows are puts from width number there = elim (puts.variables width number there) [
+pub variables_put : (access : Option Access) (old new : List Shape) (before after : List TermId) (rd id : ℕ) → Grows old new → AreRegisters old before → Puts new before after rd id
+    → ((width number : ℕ) → Occurs new width number id → OfRegistersOr old before access width number) → RegistersHave (OfRegistersOr old before access) new after
+variables_put access old new before after rd id grows are puts from width number there = elim (puts.variables width number there) [
   | inl older ↦ inl (older_registers old new before grows are width number older)
   | inr in_term ↦ from width number in_term
 ]
 
-pub variables_stay : (p : Pos) (old new : List Shape) (before : List TermId) → Grows old new → AreRegisters old before → RegistersHave (OfRegistersOr p old before) new before
-variables_stay p old new before grows are width number there = inl (older_registers old new before grows are width number there)
+pub variables_stay : (access : Option Access) (old new : List Shape) (before : List TermId) → Grows old new → AreRegisters old before
+    → RegistersHave (OfRegistersOr old before access) new before
+variables_stay access old new before grows are width number there = inl (older_registers old new before grows are width number there)

@@ -12,18 +12,22 @@ use Rattle.bv_terms.specs.Shapes.{Shape}
 use Rattle.bv_terms.specs.Values.{Assignment, value_at}
 use Rattle.step_terms.specs.Made.{IsTerm}
 use Rattle.thread_terms.specs.Standing.{OccursInRegisters, StandFor}
-use Rattle.thread_terms.specs.Steps.{IfGoes, RegistersHave}
+use Rattle.thread_terms.specs.Steps.{HasVariables, IfGoes, RegistersHave}
 
 -- Where the terms stood for the registers of a thread at this address, they stand for them after the instruction, if it goes on.
 -- They have no further variable.
-pub record Follows (old new : List Shape) (before after : List TermId) (pc : ℕ) (instruction : Instr) : Type 0 where
-  pub stands : (w : Assignment) (local : Local) (heard : Heard) → local.pc ≡ pc → StandFor w old before local → IfGoes (act local instruction heard) (StandFor w new after)
+pub record GoesOn (old new : List Shape) (before after : List TermId) (pc : ℕ) (instruction : Instr) : Type 0 where
+  pub stands : (w : Assignment) (local : Local) (heard : Heard) → local.pc ≡ pc → StandFor w old before local
+      → IfGoes (act local instruction heard) (StandFor w new after)
   pub variables : RegistersHave (OccursInRegisters old before) new after
 
--- A term of one bit, which is 1 exactly where the instruction shows what is recorded.
+-- A term of one bit, which is 1 exactly where the instruction shows what is recorded, and has no variable but those of the
+-- registers.
 pub record Constrains (old new : List Shape) (before : List TermId) (pc : ℕ) (instruction : Instr) (shown : Note) (id : ℕ) : Type 0 where
   pub bit : IsTerm new 1 id
-  pub meets : (w : Assignment) (local : Local) (heard : Heard) → local.pc ≡ pc → StandFor w old before local → (value_at w new id ≡ 1) ↔ (note_in (act local instruction heard) ≡ shown)
+  pub variables : HasVariables (OccursInRegisters old before) new id
+  pub meets : (w : Assignment) (local : Local) (heard : Heard) → local.pc ≡ pc → StandFor w old before local
+      → (value_at w new id ≡ 1) ↔ (note_in (act local instruction heard) ≡ shown)
 
 -- what is recorded of a branch, and of a jump to an address that a register tells
 abbrev pub was_taken : Note → Bool

@@ -8,9 +8,9 @@ ghost use Rattle.odr_log.specs.declared.log.Pos.{Pos};
 ghost use Rattle.step_terms.specs.Made.{Grows};
 ghost use Rattle.thread_terms.specs.Standing.{AreRegisters};
 ghost use Rattle.thread_terms.specs.Steps.{IsStep};
-ghost use Rattle.access_terms.specs.Alone.{Constrains, Follows, target_of, was_taken};
+ghost use Rattle.access_terms.specs.Alone.{Constrains, GoesOn, target_of, was_taken};
 
-use crate::bits::known;
+use crate::bits::constant_bit;
 use bv_rewrite::rewrite::Rewrite;
 use bv_terms::node::TermId;
 use bv_terms::pool::TermPool;
@@ -64,12 +64,12 @@ fn goes<R: Rewrite>(
         Instr::Jalr { rs1, offset, .. } => {
             jump(pool, book, registers, rs1, offset, target(shown))
         }
-        _ => known(pool, true),
+        _ => constant_bit(pool, true),
     }
 }
 
 // Writes the register that the instruction writes.
-fn follow<R: Rewrite>(
+fn go_on<R: Rewrite>(
     pool: &mut TermPool<'_>,
     book: &R,
     place: &Place,
@@ -78,7 +78,7 @@ fn follow<R: Rewrite>(
     requires registers { AreRegisters pool.old registers.old }
     requires valid { IsValid place.now.instr }
     requires alone { IsAlone place.now.instr }
-    ensures follows { OnOk result (Follows pool.old pool.new registers.old registers.new place.now.pc place.now.instr) }
+    ensures goes_on { OnOk result (GoesOn pool.old pool.new registers.old registers.new place.now.pc place.now.instr) }
     ensures registers { OnOk result (AreRegisters pool.new registers.new) }
     ensures grows { Grows pool.old pool.new }
 {
@@ -110,12 +110,13 @@ pub fn alone<R: Rewrite>(
     requires valid { IsValid place.now.instr }
     requires alone { IsAlone place.now.instr }
     requires leads { is_some (goes_to place.now.pc (transfer_of place.now.pc place.now.instr) shown.now) ≡ true }
-    ensures step { IfOk result (λ stepped. (image : Layout) (p : Pos) (link : Option ℕ) → IsStep image p place.now.pc place.now.instr shown.now link pool.old pool.new registers.old registers.new stepped) }
+    ensures step { IfOk result (λ stepped. (image : Layout) (p : Pos) (link : Option ℕ)
+        → IsStep image p place.now.pc place.now.instr shown.now link pool.old pool.new registers.old registers.new stepped) }
     ensures registers { OnOk result (AreRegisters pool.new registers.new) }
     ensures grows { Grows pool.old pool.new }
 {
     let constraint = goes(pool, book, place, shown, registers)?;
-    follow(pool, book, place, registers)?;
+    go_on(pool, book, place, registers)?;
     Ok(Stepped {
         constraint,
         access: None,

@@ -4,7 +4,7 @@ ghost use Rattle.step_terms.specs.Made.{Grows};
 ghost use Rattle.thread_terms.specs.Standing.{AreRegisters};
 ghost use Rattle.thread_terms.specs.Steps.{IsPlainStep};
 
-use crate::bits::known;
+use crate::bits::constant_bit;
 use crate::rights::usable;
 use crate::split::low_bytes;
 use bv_rewrite::rewrite::Rewrite;
@@ -54,7 +54,7 @@ pub fn amo<R: Rewrite>(
     let value = word_of(pool, book, reads.as_slice())?;
     let stored = atomic::amo(pool, book, op, value, operand)?;
     let writes = low_bytes(alloc, pool, stored, 4)?;
-    let guard = known(pool, true)?;
+    let guard = constant_bit(pool, true)?;
     put(pool, registers, rd, value);
     let access = Access {
         pos,

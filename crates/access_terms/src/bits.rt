@@ -12,8 +12,8 @@ use odr_list::memory::Memory;
 use step_terms::make::{self, operation, part};
 use step_terms::word::of_words;
 
-/// A test whose outcome is known.
-pub fn known(pool: &mut TermPool<'_>, test: bool) -> Result<TermId, Memory>
+/// The outcome of a test, as a constant of one bit.
+pub fn constant_bit(pool: &mut TermPool<'_>, test: bool) -> Result<TermId, Memory>
     ensures node { IfOk result (λ id. slice_get pool.new id.number ≡ Some (Const 1 (bit_of test))) }
     ensures made { IfOk result (λ id. IsMade pool.old pool.new [] 1 (λ _. bit_of test) id.number) }
     ensures grows { Grows pool.old pool.new }
@@ -33,7 +33,8 @@ pub fn both<R: Rewrite>(
 ) -> Result<TermId, Memory>
     requires left { IsTerm pool.old 1 left.number }
     requires right { IsTerm pool.old 1 right.number }
-    ensures made { IfOk result (λ id. IsMade pool.old pool.new (left.number ∷ right.number ∷ []) 1 (λ w. bit_and (value_at w pool.old left.number) (value_at w pool.old right.number)) id.number) }
+    ensures made { IfOk result (λ id. IsMade pool.old pool.new (left.number ∷ right.number ∷ []) 1
+        (λ w. bit_and (value_at w pool.old left.number) (value_at w pool.old right.number)) id.number) }
     ensures grows { Grows pool.old pool.new }
 {
     operation(pool, book, BinOp::And, left, right)
@@ -49,7 +50,8 @@ pub fn within<R: Rewrite>(
 ) -> Result<TermId, Memory>
     requires word { IsTerm pool.old 32 word.number }
     requires span { first + count ≤ 2 ^ 32 }
-    ensures made { IfOk result (λ id. IsMade pool.old pool.new (word.number ∷ []) 1 (λ w. bit_of (nat_le first (value_at w pool.old word.number) && nat_lt (value_at w pool.old word.number) (first + count))) id.number) }
+    ensures made { IfOk result (λ id. IsMade pool.old pool.new (word.number ∷ []) 1
+        (λ w. bit_of (nat_le first (value_at w pool.old word.number) && nat_lt (value_at w pool.old word.number) (first + count))) id.number) }
     ensures grows { Grows pool.old pool.new }
 {
     let width = pool.width(word);
@@ -61,7 +63,7 @@ pub fn within<R: Rewrite>(
 }
 
 /// Whether two bits of a word, of which the low one has this place, are zero.
-pub fn are_zero<R: Rewrite>(
+pub fn two_bits_are_zero<R: Rewrite>(
     pool: &mut TermPool<'_>,
     book: &R,
     word: TermId,
@@ -69,7 +71,8 @@ pub fn are_zero<R: Rewrite>(
 ) -> Result<TermId, Memory>
     requires word { IsTerm pool.old 32 word.number }
     requires low { low < 31 }
-    ensures made { IfOk result (λ id. IsMade pool.old pool.new (word.number ∷ []) 1 (λ w. bit_of (nat_eq (value_at w pool.old word.number / 2 ^ low % 2 ^ 2) 0)) id.number) }
+    ensures made { IfOk result (λ id. IsMade pool.old pool.new (word.number ∷ []) 1
+        (λ w. bit_of (nat_eq (value_at w pool.old word.number / 2 ^ low % 2 ^ 2) 0)) id.number) }
     ensures grows { Grows pool.old pool.new }
 {
     let bits = part(pool, word, low + 1, low)?;

@@ -6,7 +6,7 @@ ghost use Rattle.thread_terms.specs.Steps.{IsStep};
 ghost use Rattle.access_terms.specs.Won.{IsOutcome};
 ghost use Rattle.rv_model.specs.declared.state.Note.TheVariants as note;
 
-use crate::bits::known;
+use crate::bits::constant_bit;
 use crate::rights::usable;
 use crate::split::low_bytes;
 use bv_rewrite::rewrite::Rewrite;
@@ -33,7 +33,7 @@ fn won(pool: &mut TermPool<'_>, pos: Pos, link: Option<u32>) -> Result<TermId, M
 {
     match link {
         Some(_) => outcome(pool, pos),
-        None => known(pool, false),
+        None => constant_bit(pool, false),
     }
 }
 
@@ -58,7 +58,8 @@ pub fn conditional<R: Rewrite>(
     requires rd { rd < 32 }
     requires rs1 { rs1 < 32 }
     requires rs2 { rs2 < 32 }
-    ensures step { IfOk result (λ stepped. (pc : ℕ) → IsStep image.now pos pc (Instr.StoreConditional rd rs1 rs2 aq rl) note.Nothing link pool.old pool.new registers.old registers.new stepped) }
+    ensures step { IfOk result (λ stepped. (pc : ℕ)
+        → IsStep image.now pos pc (Instr.StoreConditional rd rs1 rs2 aq rl) note.Nothing link pool.old pool.new registers.old registers.new stepped) }
     ensures registers { OnOk result (AreRegisters pool.new registers.new) }
     ensures grows { Grows pool.old pool.new }
 {

@@ -14,7 +14,7 @@ ghost use Rattle.thread_terms.specs.Standing.{AreRegisters, term_of};
 ghost use Rattle.thread_terms.specs.Steps.{IsFault};
 ghost use Rattle.access_terms.specs.Rights.{all_allow, may_use};
 
-use crate::bits::{are_zero, known};
+use crate::bits::{constant_bit, two_bits_are_zero};
 use crate::right::Right;
 use crate::rights::{rights, usable};
 use bv_rewrite::rewrite::Rewrite;
@@ -44,7 +44,8 @@ fn lacks_right<R: Rewrite>(
 ) -> Result<TermId, Memory>
     requires registers { AreRegisters pool.old registers.now }
     requires rs1 { rs1 < 32 }
-    ensures made { IfOk result (λ id. IsMade pool.old pool.new (term_of registers.now rs1 ∷ []) 1 (λ w. 1 - bit_of (all_allow right (opening_cells image.now) (plus_offset (value_at w pool.old (term_of registers.now rs1)) offset) count)) id.number) }
+    ensures made { IfOk result (λ id. IsMade pool.old pool.new (term_of registers.now rs1 ∷ []) 1
+        (λ w. 1 - bit_of (all_allow right (opening_cells image.now) (plus_offset (value_at w pool.old (term_of registers.now rs1)) offset) count)) id.number) }
     ensures grows { Grows pool.old pool.new }
 {
     let base = read(registers, rs1);
@@ -63,7 +64,8 @@ fn unusable<R: Rewrite>(
 ) -> Result<TermId, Memory>
     requires registers { AreRegisters pool.old registers.now }
     requires rs1 { rs1 < 32 }
-    ensures made { IfOk result (λ id. IsMade pool.old pool.new (term_of registers.now rs1 ∷ []) 1 (λ w. 1 - bit_of (may_use image.now (value_at w pool.old (term_of registers.now rs1)))) id.number) }
+    ensures made { IfOk result (λ id. IsMade pool.old pool.new (term_of registers.now rs1 ∷ []) 1
+        (λ w. 1 - bit_of (may_use image.now (value_at w pool.old (term_of registers.now rs1)))) id.number) }
     ensures grows { Grows pool.old pool.new }
 {
     let test = usable(pool, book, image, read(registers, rs1))?;
@@ -80,12 +82,13 @@ fn misses<R: Rewrite>(
 ) -> Result<TermId, Memory>
     requires registers { AreRegisters pool.old registers.now }
     requires rs1 { rs1 < 32 }
-    ensures made { IfOk result (λ id. IsMade pool.old pool.new (term_of registers.now rs1 ∷ []) 1 (λ w. 1 - bit_of (is_aligned (plus_offset (value_at w pool.old (term_of registers.now rs1)) offset / 2 * 2))) id.number) }
+    ensures made { IfOk result (λ id. IsMade pool.old pool.new (term_of registers.now rs1 ∷ []) 1
+        (λ w. 1 - bit_of (is_aligned (plus_offset (value_at w pool.old (term_of registers.now rs1)) offset / 2 * 2))) id.number) }
     ensures grows { Grows pool.old pool.new }
 {
     let base = read(registers, rs1);
     let target = jump_target(pool, book, base, offset)?;
-    let aligned = are_zero(pool, book, target, 0)?;
+    let aligned = two_bits_are_zero(pool, book, target, 0)?;
     inverse(pool, aligned)
 }
 
@@ -101,7 +104,8 @@ pub fn fault<R: Rewrite>(
     requires registers { AreRegisters pool.old registers.now }
     requires valid { IsValid place.now.instr }
     requires fits { may_fault cause place.now.pc (Ok place.now.instr) ≡ true }
-    ensures fault { IfOk result (λ id. (p : Pos) (link : Option ℕ) → IsFault image.now p place.now.pc place.now.instr (note.Faulted cause) link pool.old pool.new registers.now id.number) }
+    ensures fault { IfOk result (λ id. (p : Pos) (link : Option ℕ)
+        → IsFault image.now p place.now.pc place.now.instr (note.Faulted cause) link pool.old pool.new registers.now id.number) }
     ensures grows { Grows pool.old pool.new }
 {
     match place.instr {
@@ -144,6 +148,6 @@ pub fn fault<R: Rewrite>(
         Instr::Amo { rs1, .. } => unusable(pool, book, image, registers, rs1),
         Instr::Jalr { rs1, offset, .. } => misses(pool, book, registers, rs1, offset),
         Instr::Branch { op, rs1, rs2, .. } => branch(pool, book, registers, op, rs1, rs2, true),
-        _ => known(pool, true),
+        _ => constant_bit(pool, true),
     }
 }

@@ -4,7 +4,7 @@ ghost use Rattle.step_terms.specs.Made.{Grows};
 ghost use Rattle.thread_terms.specs.Standing.{AreRegisters};
 ghost use Rattle.thread_terms.specs.Steps.{IsPlainStep};
 
-use crate::bits::known;
+use crate::bits::constant_bit;
 use crate::right::Right;
 use crate::rights::rights;
 use bv_rewrite::rewrite::Rewrite;
@@ -51,7 +51,7 @@ pub fn load<R: Rewrite>(
     let constraint = rights(pool, book, image, Right::Read, address, load_size(op))?;
     let reads = bytes(alloc, pool, pos, load_size(op))?;
     let value = loaded(pool, book, op, reads.as_slice())?;
-    let guard = known(pool, false)?;
+    let guard = constant_bit(pool, false)?;
     put(pool, registers, rd, value);
     let access = Access {
         pos,

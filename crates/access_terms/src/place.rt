@@ -7,7 +7,7 @@ ghost use Rattle.elf_image.specs.Memory.{in_stack};
 ghost use Rattle.step_terms.specs.Made.{Grows, IsMade, IsTerm};
 ghost use Rattle.access_terms.specs.Rights.{allows_in, grants};
 
-use crate::bits::{are_zero, both, known, within};
+use crate::bits::{both, constant_bit, two_bits_are_zero, within};
 use crate::right::Right;
 use bv_rewrite::rewrite::Rewrite;
 use bv_terms::node::TermId;
@@ -23,11 +23,12 @@ fn in_stack<R: Rewrite>(
     address: TermId,
 ) -> Result<TermId, Memory>
     requires { IsTerm pool.old 32 address.number }
-    ensures made { IfOk result (λ id. IsMade pool.old pool.new (address.number ∷ []) 1 (λ w. bit_of (in_stack (value_at w pool.old address.number))) id.number) }
+    ensures made { IfOk result (λ id. IsMade pool.old pool.new (address.number ∷ []) 1
+        (λ w. bit_of (in_stack (value_at w pool.old address.number))) id.number) }
     ensures grows { Grows pool.old pool.new }
 {
     let near = within(pool, book, address, 0x7000_0000, 0x8_0000)?;
-    let low = are_zero(pool, book, address, 14)?;
+    let low = two_bits_are_zero(pool, book, address, 14)?;
     both(pool, book, near, low)
 }
 
@@ -43,11 +44,13 @@ fn in_region<R: Rewrite>(
     requires placed { IsPlaced region.now }
     requires address { IsTerm pool.old 32 address.number }
     requires otherwise { IsTerm pool.old 1 otherwise.number }
-    ensures made { IfOk result (λ id. IsMade pool.old pool.new (address.number ∷ otherwise.number ∷ []) 1 (λ w. if covers region.now (value_at w pool.old address.number) then bit_of (grants right region.now.perm) else value_at w pool.old otherwise.number) id.number) }
+    ensures made { IfOk result (λ id. IsMade pool.old pool.new (address.number ∷ otherwise.number ∷ []) 1
+        (λ w. if covers region.now (value_at w pool.old address.number) then bit_of (grants right region.now.perm)
+        else value_at w pool.old otherwise.number) id.number) }
     ensures grows { Grows pool.old pool.new }
 {
     let covered = within(pool, book, address, region.start, region.bytes.len() as u32)?;
-    let own = known(pool, right.is_granted(region.perm))?;
+    let own = constant_bit(pool, right.is_granted(region.perm))?;
     choice(pool, covered, own, otherwise)
 }
 
@@ -61,7 +64,8 @@ pub fn allowed<R: Rewrite>(
 ) -> Result<TermId, Memory>
     requires placed { All IsPlaced regions.now }
     requires address { IsTerm pool.old 32 address.number }
-    ensures made { IfOk result (λ id. IsMade pool.old pool.new (address.number ∷ []) 1 (λ w. bit_of (allows_in right regions.now (value_at w pool.old address.number))) id.number) }
+    ensures made { IfOk result (λ id. IsMade pool.old pool.new (address.number ∷ []) 1
+        (λ w. bit_of (allows_in right regions.now (value_at w pool.old address.number))) id.number) }
     ensures grows { Grows pool.old pool.new }
 {
     let mut test = in_stack(pool, book, address)?;

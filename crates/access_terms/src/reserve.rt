@@ -4,7 +4,7 @@ ghost use Rattle.step_terms.specs.Made.{Grows};
 ghost use Rattle.thread_terms.specs.Standing.{AreRegisters};
 ghost use Rattle.thread_terms.specs.Steps.{IsPlainStep};
 
-use crate::bits::known;
+use crate::bits::constant_bit;
 use crate::rights::usable;
 use bv_rewrite::rewrite::Rewrite;
 use bv_terms::node::TermId;
@@ -47,7 +47,7 @@ pub fn reserve<R: Rewrite>(
     let constraint = usable(pool, book, image, address)?;
     let reads = bytes(alloc, pool, pos, 4)?;
     let value = word_of(pool, book, reads.as_slice())?;
-    let guard = known(pool, false)?;
+    let guard = constant_bit(pool, false)?;
     put(pool, registers, rd, value);
     let access = Access {
         pos,

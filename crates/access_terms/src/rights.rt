@@ -6,7 +6,7 @@ ghost use Rattle.elf_image.specs.Memory.{opening_cells};
 ghost use Rattle.step_terms.specs.Made.{Grows, IsMade, IsTerm};
 ghost use Rattle.access_terms.specs.Rights.{all_allow, allows, may_use};
 
-use crate::bits::{are_zero, both, known};
+use crate::bits::{both, constant_bit, two_bits_are_zero};
 use crate::place::allowed;
 use crate::right::Right;
 use bv_rewrite::rewrite::Rewrite;
@@ -17,7 +17,7 @@ use odr_list::memory::Memory;
 use step_terms::make;
 use step_terms::word::of_words;
 
-// Whether `count` bytes from an address on have a right, where the address is known.
+// Whether `count` bytes from an address on have a right, where the address is a constant.
 #[tactic(auto, using(crate::proofs::Allowing::spans))]
 fn all_allowed(image: &Image, right: Right, address: u32, count: u32) -> bool
     ensures { result ≡ all_allow right (opening_cells image.now) address count }
@@ -40,7 +40,8 @@ fn further<R: Rewrite>(
     index: u32,
 ) -> Result<TermId, Memory>
     requires { IsTerm pool.old 32 address.number }
-    ensures made { IfOk result (λ id. IsMade pool.old pool.new (address.number ∷ []) 32 (λ w. (value_at w pool.old address.number + index) % 2 ^ 32) id.number) }
+    ensures made { IfOk result (λ id. IsMade pool.old pool.new (address.number ∷ []) 32
+        (λ w. (value_at w pool.old address.number + index) % 2 ^ 32) id.number) }
     ensures grows { Grows pool.old pool.new }
 {
     let index = make::word(pool, index)?;
@@ -57,7 +58,8 @@ pub fn byte_allowed<R: Rewrite>(
     index: u32,
 ) -> Result<TermId, Memory>
     requires { IsTerm pool.old 32 address.number }
-    ensures made { IfOk result (λ id. IsMade pool.old pool.new (address.number ∷ []) 1 (λ w. bit_of (allows right (opening_cells image.now ((value_at w pool.old address.number + index) % 2 ^ 32)))) id.number) }
+    ensures made { IfOk result (λ id. IsMade pool.old pool.new (address.number ∷ []) 1
+        (λ w. bit_of (allows right (opening_cells image.now ((value_at w pool.old address.number + index) % 2 ^ 32)))) id.number) }
     ensures grows { Grows pool.old pool.new }
 {
     image.laws();
@@ -75,12 +77,13 @@ fn bytes_allowed<R: Rewrite>(
     count: u32,
 ) -> Result<TermId, Memory>
     requires { IsTerm pool.old 32 address.number }
-    ensures made { IfOk result (λ id. IsMade pool.old pool.new (address.number ∷ []) 1 (λ w. bit_of (all_allow right (opening_cells image.now) (value_at w pool.old address.number) count)) id.number) }
+    ensures made { IfOk result (λ id. IsMade pool.old pool.new (address.number ∷ []) 1
+        (λ w. bit_of (all_allow right (opening_cells image.now) (value_at w pool.old address.number) count)) id.number) }
     ensures grows { Grows pool.old pool.new }
 {
     let width = pool.width(address);
     prove!(width == 32);
-    let mut test = known(pool, true)?;
+    let mut test = constant_bit(pool, true)?;
     for index in 0..count {
         let byte = byte_allowed(pool, book, image, right, address, index)?;
         test = both(pool, book, test, byte)?;
@@ -98,13 +101,14 @@ pub fn rights<R: Rewrite>(
     count: u32,
 ) -> Result<TermId, Memory>
     requires { IsTerm pool.old 32 address.number }
-    ensures made { IfOk result (λ id. IsMade pool.old pool.new (address.number ∷ []) 1 (λ w. bit_of (all_allow right (opening_cells image.now) (value_at w pool.old address.number) count)) id.number) }
+    ensures made { IfOk result (λ id. IsMade pool.old pool.new (address.number ∷ []) 1
+        (λ w. bit_of (all_allow right (opening_cells image.now) (value_at w pool.old address.number) count)) id.number) }
     ensures grows { Grows pool.old pool.new }
 {
     let width = pool.width(address);
     prove!(width == 32);
     match pool.constant(address) {
-        Some(place) => known(pool, all_allowed(image, right, place as u32, count)),
+        Some(place) => constant_bit(pool, all_allowed(image, right, place as u32, count)),
         None => bytes_allowed(pool, book, image, right, address, count),
     }
 }
@@ -117,12 +121,13 @@ pub fn usable<R: Rewrite>(
     address: TermId,
 ) -> Result<TermId, Memory>
     requires { IsTerm pool.old 32 address.number }
-    ensures made { IfOk result (λ id. IsMade pool.old pool.new (address.number ∷ []) 1 (λ w. bit_of (may_use image.now (value_at w pool.old address.number))) id.number) }
+    ensures made { IfOk result (λ id. IsMade pool.old pool.new (address.number ∷ []) 1
+        (λ w. bit_of (may_use image.now (value_at w pool.old address.number))) id.number) }
     ensures grows { Grows pool.old pool.new }
 {
     let readable = rights(pool, book, image, Right::Read, address, 4)?;
     let writable = rights(pool, book, image, Right::Write, address, 4)?;
     let open = both(pool, book, readable, writable)?;
-    let aligned = are_zero(pool, book, address, 0)?;
+    let aligned = two_bits_are_zero(pool, book, address, 0)?;
     both(pool, book, aligned, open)
 }

@@ -4,7 +4,7 @@ ghost use Rattle.step_terms.specs.Made.{Grows};
 ghost use Rattle.thread_terms.specs.Standing.{AreRegisters};
 ghost use Rattle.thread_terms.specs.Steps.{IsPlainStep};
 
-use crate::bits::known;
+use crate::bits::constant_bit;
 use crate::right::Right;
 use crate::rights::rights;
 use crate::split::low_bytes;
@@ -46,7 +46,7 @@ pub fn store<R: Rewrite>(
     let address = offset_by(pool, book, base, offset)?;
     let constraint = rights(pool, book, image, Right::Write, address, store_size(op))?;
     let writes = low_bytes(alloc, pool, word, store_size(op))?;
-    let guard = known(pool, true)?;
+    let guard = constant_bit(pool, true)?;
     let access = Access {
         pos,
         address,

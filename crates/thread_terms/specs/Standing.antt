@@ -37,7 +37,8 @@ pub record Writes (old new : List Shape) (before after : List TermId) (rd : ℕ)
 -- A register is written with a term of the pool, as what a load read or what a join hands on.
 pub record Puts (nodes : List Shape) (before after : List TermId) (rd id : ℕ) : Type 0 where
   pub stands : (w : Assignment) (local : Local) → StandFor w nodes before local → StandFor w nodes after (with_register local rd (value_at w nodes id))
-  pub variables : (width variable : ℕ) → OccursInRegisters nodes after width variable → OccursInRegisters nodes before width variable ⊎ Occurs nodes width variable id
+  pub variables : (width variable : ℕ) → OccursInRegisters nodes after width variable
+      → OccursInRegisters nodes before width variable ⊎ Occurs nodes width variable id
 
 -- A constraint on the registers before a step: a term of one bit, which is 1 exactly where a property holds of the thread, and
 -- has no variable but those of the registers.

@@ -1,6 +1,6 @@
 -- Which variables stand for what is given: one of 8 bits for each byte that a step may read, and one of one bit for the outcome
 -- of its store-conditional.
-use Rattle.std.specs.Prelude.{◌≡◌, ◌⊎◌, ℕ, ◌+◌, ◌*◌, ◌^◌, ◌<◌, List, Some, length, slice_get, slice_index_or}
+use Rattle.std.specs.Prelude.{◌≡◌, ℕ, ◌+◌, ◌*◌, ◌^◌, ◌<◌, List, Some, length, slice_get, slice_index_or}
 use Rattle.odr_log.specs.declared.log.Pos.{Pos}
 use Rattle.bv_terms.specs.declared.node.TermId.{TermId}
 use Rattle.bv_terms.specs.Shapes.{Shape, Var}
@@ -23,10 +23,13 @@ pub record IsVariable (nodes : List Shape) (bits number id : ℕ) : Type 0 where
 
 -- the terms are the variables of the bytes of a step, in their order
 abbrev pub AreVariables : List Shape → Pos → List TermId → Type 0
-AreVariables nodes p ids = (index : ℕ) → index < length ids → IsVariable nodes 8 (byte_number p.thread p.step index) (slice_index_or ids index (record { number = 0 })).number
+AreVariables nodes p ids = (index : ℕ) → index < length ids
+    → IsVariable nodes 8 (byte_number p.thread p.step index) (slice_index_or ids index (record { number = 0 })).number
 
--- a variable of a step: of a byte that it may read, or of its outcome
-abbrev pub IsOf : Pos → (width number : ℕ) → Type 0
-IsOf p width number =
-    ((width ≡ 8) × ((index : ℕ) × (index < 2 ^ 8) × (number ≡ byte_number p.thread p.step index)))
-    ⊎ ((width ≡ 1) × (number ≡ step_number p.thread p.step))
+-- the variable of one of the first so many bytes that a step reads
+abbrev pub IsByteOf : Pos → (count : ℕ) → (width number : ℕ) → Type 0
+IsByteOf p count width number = (width ≡ 8) × ((index : ℕ) × (index < count) × (number ≡ byte_number p.thread p.step index))
+
+-- the variable of the outcome of a step
+abbrev pub IsOutcomeOf : Pos → (width number : ℕ) → Type 0
+IsOutcomeOf p width number = (width ≡ 1) × (number ≡ step_number p.thread p.step)

@@ -20,7 +20,8 @@ use step_terms::word::equals;
 // Whether a bit is as it is recorded.
 fn agrees(pool: &mut TermPool<'_>, bit: TermId, recorded: bool) -> Result<TermId, Memory>
     requires { IsTerm pool.old 1 bit.number }
-    ensures made { IfOk result (λ id. IsMade pool.old pool.new (bit.number ∷ []) 1 (λ w. if recorded then value_at w pool.old bit.number else 1 - value_at w pool.old bit.number) id.number) }
+    ensures made { IfOk result (λ id. IsMade pool.old pool.new (bit.number ∷ []) 1
+        (λ w. if recorded then value_at w pool.old bit.number else 1 - value_at w pool.old bit.number) id.number) }
     ensures grows { Grows pool.old pool.new }
 {
     if recorded {
@@ -43,7 +44,8 @@ pub fn branch<R: Rewrite>(
     requires registers { AreRegisters pool.old registers.now }
     requires rs1 { rs1 < 32 }
     requires rs2 { rs2 < 32 }
-    ensures says { IfOk result (λ id. Says pool.old pool.new registers.now id.number (λ local. taken_of op (register local rs1) (register local rs2) ≡ recorded)) }
+    ensures says { IfOk result (λ id. Says pool.old pool.new registers.now id.number
+        (λ local. taken_of op (register local rs1) (register local rs2) ≡ recorded)) }
     ensures grows { Grows pool.old pool.new }
 {
     let left = read(registers, rs1);

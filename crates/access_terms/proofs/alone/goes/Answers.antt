@@ -37,8 +37,8 @@ returns-in-Jalr-clause-constrains g c =
 
 pub returns-in_default : goal.returns-in_default
 returns-in_default g c = record {
-  constrains = IfOk-weaker c.known.result _ _
-      (λ id h. quiet_constrains c.args.pool.now c.known.new.pool c.args.registers.now c.args.place.now.pc c.args.place.now.instr c.args.shown.now id.number c.requires.alone
-      (is_quiet c.args.place.now.instr c.in_default.not-Jalr c.in_default.not-Branch) c.requires.leads h.term h.value) c.known.ensures.made;
-  grows = c.known.ensures.grows;
+  constrains = IfOk-weaker c.constant_bit.result _ _
+      (λ id h. quiet_constrains c.args.pool.now c.constant_bit.new.pool c.args.registers.now c.args.place.now.pc c.args.place.now.instr c.args.shown.now id.number c.requires.alone
+      (is_quiet c.args.place.now.instr c.in_default.not-Jalr c.in_default.not-Branch) c.requires.leads h) c.constant_bit.ensures.made;
+  grows = c.constant_bit.ensures.grows;
 }

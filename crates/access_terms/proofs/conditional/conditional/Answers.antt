@@ -1,4 +1,4 @@
-use Rattle.std.proofs.Common.{◌-◌, ◌∷◌, [], subst, sym, arith, List}
+use Rattle.std.proofs.Common.{◌∷◌, [], subst, sym, arith, List}
 use Rattle.bv_terms.specs.BitVectors.{bit_of}
 use Rattle.bv_terms.specs.Values.{value_at}
 use Rattle.step_terms.specs.Made.{Grows, IsTerm}
@@ -65,7 +65,7 @@ returns-clause-step g c = λ pc.
     (conditional_step image pos pc c.args.rd c.args.rs1 c.args.rs2 c.args.aq c.args.rl link old new before c.put.new.registers a k o v writes grows c.requires.registers c.requires.rs1 c.requires.rs2 c.read-address.ensures
     (later old one new (a.number ∷ []) 1 (λ w. bit_of (may_use image (value_at w old a.number))) k.number after_one c.in_ok-constraint.ensures.made)
     (outcome_stays pos two new link o.number after_two c.in_ok-guard.ensures.outcome)
-    (written_register pos old two three new before c.args.rs2 4 writes (grows_on old one two c.usable.ensures.grows c.won.ensures.grows) c.failure.ensures.grows c.requires.registers c.requires.rs2 low)
+    (written_register old two three new before c.args.rs2 4 writes (grows_on old one two c.usable.ensures.grows c.won.ensures.grows) c.failure.ensures.grows c.requires.registers c.requires.rs2 low)
     (value_of_guard pos two three new link o.number v c.low_bytes.ensures.grows c.failure.ensures.grows c.in_ok-guard.ensures.outcome c.in_ok-value.ensures.made) c.put.ensures.puts)
 
 pub returns-clause-grows : goal.returns-clause-grows

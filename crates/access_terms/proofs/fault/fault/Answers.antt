@@ -91,9 +91,9 @@ returns-in-Branch-clause-fault g c =
 
 pub returns-in_default : goal.returns-in_default
 returns-in_default g c = record {
-  fault = IfOk-weaker c.known.result _ _
-      (λ id h p link. fixed_faults c.args.image.now p c.args.place.now.pc c.args.place.now.instr c.args.cause link c.args.pool.now c.known.new.pool c.args.registers.now id.number
+  fault = IfOk-weaker c.constant_bit.result _ _
+      (λ id h p link. fixed_faults c.args.image.now p c.args.place.now.pc c.args.place.now.instr c.args.cause link c.args.pool.now c.constant_bit.new.pool c.args.registers.now id.number
       (is_fixed c.args.place.now.instr c.in_default.not-Load c.in_default.not-Store c.in_default.not-LoadReserved c.in_default.not-StoreConditional c.in_default.not-Amo c.in_default.not-Jalr c.in_default.not-Branch)
-      c.requires.fits h.term h.value) c.known.ensures.made;
-  grows = c.known.ensures.grows;
+      c.requires.fits h) c.constant_bit.ensures.made;
+  grows = c.constant_bit.ensures.grows;
 }

@@ -1,4 +1,4 @@
-use Rattle.std.proofs.Common.{◌-◌, ◌*◌, ◌/◌, ◌%◌, ◌^◌, ◌∷◌, [], ap, nat_eq, subst, sym, w32}
+use Rattle.std.proofs.Common.{◌*◌, ◌/◌, ◌%◌, ◌^◌, ◌∷◌, [], ap, nat_eq, subst, sym, w32}
 use Rattle.std.proofs.lemmas.Int.{to_z-of_z}
 use Rattle.std.proofs.lemmas.Result.{IfOk-weaker}
 use Rattle.rv_model.specs.Instruction.{is_aligned}
@@ -18,7 +18,7 @@ pub returns-clause-made : goal.returns-clause-made
 returns-clause-made g c =
     let old = c.args.pool.now in
     let one = c.jump_target.new.pool in
-    let two = c.are_zero.new.pool in
+    let two = c.two_bits_are_zero.new.pool in
     let offset = c.args.offset in
     let x = term_of c.args.registers.now c.args.rs1 in
     let b = c.read-base.result.number in

@@ -1,4 +1,4 @@
-use Rattle.std.proofs.Common.{◌-◌, ◌∷◌, [], subst, sym}
+use Rattle.std.proofs.Common.{◌∷◌, [], subst, sym}
 use Rattle.std.proofs.lemmas.Result.{IfOk-weaker}
 use Rattle.bv_terms.specs.BitVectors.{bit_of}
 use Rattle.bv_terms.specs.Values.{value_at}

@@ -4,7 +4,7 @@ use Rattle.std.proofs.lemmas.Int.{to_z-of_z}
 use Rattle.thread_terms.specs.Steps.{IsPlainStep}
 use Rattle.std.proofs.lemmas.Result.{IfOk-weaker}
 use Rattle.rv32_decode.specs.declared.instr.Instr.TheVariants as instr
-use Rattle.access_terms.proofs.Nexting.{amo_next, conditional_next, load_next, next_of, next_plain, reserve_next, store_next}
+use Rattle.access_terms.proofs.Nexting.{amo_next, conditional_next, load_next, next_linked, next_plain, reserve_next, store_next}
 use Rattle.access_terms.proofs.next.next.Goals as goal
 
 pub returns-in-Load-clause-step : goal.returns-in-Load-clause-step
@@ -36,8 +36,8 @@ pub returns-in-StoreConditional-clause-step : goal.returns-in-StoreConditional-c
 returns-in-StoreConditional-clause-step g c =
     let a = c.in-StoreConditional in
     let place = c.args.place.now in
-    next_of c.args.image.now c.args.pos place.pc place.instr (instr.StoreConditional a.rd a.rs1 a.rs2 a.aq a.rl) c.args.shown.now c.args.link c.args.pool.now c.conditional.new.pool c.args.registers.now c.conditional.new.registers
-    c.conditional.result a.is (conditional_next place.pc a.rd a.rs1 a.rs2 a.aq a.rl) c.requires.leads (IfOk-weaker c.conditional.result _ _ (λ stepped h. h place.pc) c.conditional.ensures.step)
+    next_linked c.args.image.now c.args.pos place.pc place.instr (instr.StoreConditional a.rd a.rs1 a.rs2 a.aq a.rl) c.args.shown.now c.args.link c.args.pool.now c.conditional.new.pool c.args.registers.now c.conditional.new.registers
+    c.conditional.result a.is (conditional_next place.pc a.rd a.rs1 a.rs2 a.aq a.rl) c.requires.leads c.conditional.ensures.step
 
 pub returns-in-Amo-clause-step : goal.returns-in-Amo-clause-step
 returns-in-Amo-clause-step g c =

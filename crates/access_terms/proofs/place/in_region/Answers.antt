@@ -14,7 +14,7 @@ pub returns-clause-made : goal.returns-clause-made
 returns-clause-made g c =
     let old = c.args.pool.now in
     let one = c.within.new.pool in
-    let two = c.known.new.pool in
+    let two = c.constant_bit.new.pool in
     let new = c.choice.new.pool in
     let a = c.args.address.number in
     let o = c.args.otherwise.number in
@@ -27,7 +27,7 @@ returns-clause-made g c =
     IfOk-weaker c.choice.result _ _
     (λ id h. reworded old new (a ∷ o ∷ []) 1 (λ w. cond (nat_eq (covered w) 1) (own w) (value_at w old o)) (λ w. cond (covers region (value_at w old a)) (own w) (value_at w old o)) id.number
     (of_choice old two new (a ∷ o ∷ []) x y o 1 1 covered own (λ w. value_at w old o) id.number
-    (later old one two (a ∷ o ∷ []) 1 covered x c.known.ensures.grows (made_first old one a o 1 covered x covers_it))
+    (later old one two (a ∷ o ∷ []) 1 covered x c.constant_bit.ensures.grows (made_first old one a o 1 covered x covers_it))
     (made_constant old one two (a ∷ o ∷ []) 1 own y (subst (λ t. IsMade one two [] 1 (λ w. bit_of t) y) c.is_granted.ensures c.in_ok-own.ensures.made))
-    (second_stays old two a o 1 (grows_on old one two c.within.ensures.grows c.known.ensures.grows) c.requires.otherwise) h)
+    (second_stays old two a o 1 (grows_on old one two c.within.ensures.grows c.constant_bit.ensures.grows) c.requires.otherwise) h)
     (λ w. by_bit (covers region (value_at w old a)) (own w) (value_at w old o))) c.choice.ensures.term

@@ -12,7 +12,7 @@ pub returns-clause-made : goal.returns-clause-made
 returns-clause-made g c =
     let old = c.args.pool.now in
     let one = c.within.new.pool in
-    let two = c.are_zero.new.pool in
+    let two = c.two_bits_are_zero.new.pool in
     let new = c.both.new.pool in
     let a = c.args.address.number in
     let x = c.in_ok-near.near.number in
@@ -21,5 +21,5 @@ returns-clause-made g c =
     let low = λ (w : Assignment). bit_of (nat_eq (value_at w old a / 2 ^ 14 % 2 ^ 2) 0) in
     IfOk-weaker c.both.result _ _
     (λ id h. reworded old new (a ∷ []) 1 (λ w. bit_and (near w) (low w)) (λ w. bit_of (in_stack (value_at w old a))) id.number
-    (by_two old two new (a ∷ []) x y 1 1 1 near low bit_and id.number (later old one two (a ∷ []) 1 near x c.are_zero.ensures.grows c.in_ok-near.ensures.made)
+    (by_two old two new (a ∷ []) x y 1 1 1 near low bit_and id.number (later old one two (a ∷ []) 1 near x c.two_bits_are_zero.ensures.grows c.in_ok-near.ensures.made)
     (made_after old one two a 1 32 (λ v. bit_of (nat_eq (v / 2 ^ 14 % 2 ^ 2) 0)) y c.within.ensures.grows c.requires c.in_ok-low.ensures.made) h) (λ w. stack_test (value_at w old a))) c.both.ensures.made

@@ -17,7 +17,7 @@ returns-clause-made g c =
     let one = c.rights.new.pool in
     let two = c.rights-2.new.pool in
     let three = c.both.new.pool in
-    let four = c.are_zero.new.pool in
+    let four = c.two_bits_are_zero.new.pool in
     let new = c.both-2.new.pool in
     let a = c.args.address.number in
     let cells = opening_cells c.args.image.now in
@@ -33,7 +33,7 @@ returns-clause-made g c =
     let to_three = grows_on old two three to_two c.both.ensures.grows in
     let readable = later old one two (a ∷ []) 1 read r c.rights-2.ensures.grows c.in_ok-readable.ensures.made in
     let writable = made_after old one two a 1 32 (λ n. bit_of (all_allow Write cells n 4)) v c.rights.ensures.grows c.requires c.in_ok-writable.ensures.made in
-    let granted = later old three four (a ∷ []) 1 both_rights o c.are_zero.ensures.grows (by_two old two three (a ∷ []) r v 1 1 1 read written bit_and o readable writable c.in_ok-open.ensures.made) in
+    let granted = later old three four (a ∷ []) 1 both_rights o c.two_bits_are_zero.ensures.grows (by_two old two three (a ∷ []) r v 1 1 1 read written bit_and o readable writable c.in_ok-open.ensures.made) in
     let aligned = made_after old three four a 1 32 (λ n. bit_of (nat_eq (n / 2 ^ 0 % 2 ^ 2) 0)) z to_three c.requires c.in_ok-aligned.ensures.made in
     IfOk-weaker c.both-2.result _ _
     (λ id h. reworded old new (a ∷ []) 1 (λ w. bit_and (low w) (both_rights w)) (λ w. bit_of (is_aligned (value_at w old a) && (all_readable cells (value_at w old a) 4 && all_writable cells (value_at w old a) 4))) id.number

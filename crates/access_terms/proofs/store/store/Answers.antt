@@ -12,7 +12,7 @@ use Rattle.thread_terms.specs.Standing.{term_of}
 use Rattle.access_terms.specs.declared.right.Right.TheVariants.{Write}
 use Rattle.access_terms.specs.Rights.{all_allow}
 use Rattle.access_terms.specs.Split.{AreLowBytes}
-use Rattle.access_terms.proofs.Own.{known_made}
+use Rattle.access_terms.proofs.Own.{constant_made}
 use Rattle.access_terms.proofs.Storing.{few_stored, store_step}
 use Rattle.access_terms.proofs.Writing.{written_register}
 use Rattle.rv32_decode.specs.declared.instr.Instr.TheVariants as instr
@@ -40,7 +40,7 @@ returns-clause-step g c =
     let one = c.offset_by.new.pool in
     let two = c.rights.new.pool in
     let three = c.low_bytes.new.pool in
-    let new = c.known.new.pool in
+    let new = c.constant_bit.new.pool in
     let before = c.args.registers.now in
     let op = c.args.op in
     let offset = c.args.offset in
@@ -54,7 +54,7 @@ returns-clause-step g c =
     let k = c.in_ok-constraint.constraint.number in
     let writes = c.in_ok-writes.writes in
     let place = λ (w : Assignment). plus_offset (value_at w old x) offset in
-    let after_two = grows_on two three new c.low_bytes.ensures.grows c.known.ensures.grows in
+    let after_two = grows_on two three new c.low_bytes.ensures.grows c.constant_bit.ensures.grows in
     let after_one = grows_on one two new c.rights.ensures.grows after_two in
     let grows = grows_on old one new c.offset_by.ensures.grows after_one in
     let whole = subst (λ z. IsMade old one (b ∷ []) 32 (λ w. plus_offset (value_at w old b) z) a) (to_z-of_z w32 offset c.ranges.offset) c.in_ok-address.ensures.made in
@@ -67,12 +67,12 @@ returns-clause-step g c =
     (whole_step pos c.in_ok-constraint.constraint c.in_ok-address.address c.in_ok-guard.guard l writes None)) (sym c.new.ensures)
     (store_step c.args.image.now pos op c.args.rs1 c.args.rs2 offset old new before c.in_ok-address.address c.in_ok-constraint.constraint c.in_ok-guard.guard writes grows c.requires.registers c.requires.rs1 c.requires.rs2
     (later old one new (x ∷ []) 32 place a after_one at) (later old two new (x ∷ []) 1 (λ w. bit_of (all_allow Write cells (place w) size)) k after_two allowed)
-    (written_register pos old two three new before c.args.rs2 size writes (grows_on old one two c.offset_by.ensures.grows c.rights.ensures.grows) c.known.ensures.grows c.requires.registers c.requires.rs2 low)
-    (known_made three new true c.in_ok-guard.guard.number c.in_ok-guard.ensures.node c.in_ok-guard.ensures.made))
+    (written_register old two three new before c.args.rs2 size writes (grows_on old one two c.offset_by.ensures.grows c.rights.ensures.grows) c.constant_bit.ensures.grows c.requires.registers c.requires.rs2 low)
+    (constant_made three new true c.in_ok-guard.guard.number c.in_ok-guard.ensures.node c.in_ok-guard.ensures.made))
 
 pub returns-clause-grows : goal.returns-clause-grows
 returns-clause-grows g c =
-    grows_on c.args.pool.now c.offset_by.new.pool c.known.new.pool c.offset_by.ensures.grows
-    (grows_on c.offset_by.new.pool c.rights.new.pool c.known.new.pool c.rights.ensures.grows
-    (grows_on c.rights.new.pool c.low_bytes.new.pool c.known.new.pool c.low_bytes.ensures.grows
-    c.known.ensures.grows))
+    grows_on c.args.pool.now c.offset_by.new.pool c.constant_bit.new.pool c.offset_by.ensures.grows
+    (grows_on c.offset_by.new.pool c.rights.new.pool c.constant_bit.new.pool c.rights.ensures.grows
+    (grows_on c.rights.new.pool c.low_bytes.new.pool c.constant_bit.new.pool c.low_bytes.ensures.grows
+    c.constant_bit.ensures.grows))

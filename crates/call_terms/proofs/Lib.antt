@@ -1,0 +1,5 @@
+pub mod Records
+pub mod Constraints
+pub mod Buffers
+pub mod Access
+pub mod Calling
