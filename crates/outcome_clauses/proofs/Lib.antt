@@ -1,0 +1,7 @@
+pub mod Refuting
+pub mod Affirming
+pub mod Ending
+pub mod Gathering
+pub mod Adding
+pub mod Composing
+pub mod Placing
