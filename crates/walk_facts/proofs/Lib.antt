@@ -1,0 +1,5 @@
+mod Addresses
+mod Writes
+mod Moves
+mod Rights
+mod Quiet

@@ -1,0 +1,39 @@
+-- Laws of the steps of guided walks, each the contract of a public function.
+use Rattle.std.specs.Prelude.{◌≡◌, ℕ, Some}
+use Rattle.elf_image.specs.Layout.{Layout}
+use Rattle.odr_log.specs.declared.log.Cause.{Cause}
+use Rattle.odr_log.specs.declared.log.End.TheVariants as end
+use Rattle.odr_log.specs.declared.log.Log.{Log}
+use Rattle.odr_log.specs.declared.log.Pos.{Pos}
+use Rattle.rv_model.specs.declared.walk.FaultPlace.{FaultPlace}
+use Rattle.rv_model.specs.CallsFit.{CallsFit}
+use Rattle.rv_model.specs.RecordedOrder.{Counted}
+use Rattle.rv_model.specs.Run.{logged}
+use Rattle.rv_model.specs.Walk.{IsWalk, Walk}
+use Rattle.guided_walk.specs.Guided.{Given, IsGuided, Visits, at}
+use Rattle.guided_walk.specs.Told.{IsPlace, told}
+use Rattle.walk_facts.specs.Bytes.{HasRights}
+use Rattle.walk_facts.specs.Quiet.{FitsAnyway, IsQuiet}
+use Rattle.walk_facts.specs.Steps.{IsAccess, StandsAt, StopsAt, place_of_step, step_of}
+
+-- A thread before a counted step stands where the log's walk has it.
+abbrev pub InstructionLaw : Type 0
+InstructionLaw = (image : Layout) (log : Log) (walk : Walk) (given : Given) (visits : Visits) (p : Pos) → IsWalk image log walk
+    → IsGuided image (told log walk) given visits → Counted log p → StandsAt image (at visits p).seen (place_of_step walk p)
+
+-- The thread whose fault ends the log stands before it at the place of the fault.
+abbrev pub FaultLaw : Type 0
+FaultLaw = (image : Layout) (log : Log) (walk : Walk) (given : Given) (visits : Visits) (thread : ℕ) (cause : Cause) (place : FaultPlace) → IsWalk image log walk
+    → IsGuided image (told log walk) given visits → log.end ≡ end.Faulted thread cause → walk.fault ≡ Some place
+    → StopsAt image (at visits (step_of thread (logged log thread).steps)).seen place
+
+-- What a step reads may be read, and what it writes may be written.
+abbrev pub RightsLaw : Type 0
+RightsLaw = (image : Layout) (log : Log) (walk : Walk) (given : Given) (visits : Visits) (p : Pos) → IsWalk image log walk → CallsFit log
+    → IsGuided image (told log walk) given visits → IsPlace (told log walk) p → HasRights image (at visits p)
+
+-- A step that is no access is quiet, and so is the fault; whatever is given fits it.
+abbrev pub QuietLaw : Type 0
+QuietLaw = (image : Layout) (log : Log) (walk : Walk) (given : Given) (visits : Visits) (p : Pos) → IsWalk image log walk
+    → IsGuided image (told log walk) given visits → IsPlace (told log walk) p → (IsAccess log walk p → ⊥)
+    → IsQuiet image (at visits p) × ((other : Given) → FitsAnyway image other p (at visits p))

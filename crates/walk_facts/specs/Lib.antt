@@ -1,0 +1,4 @@
+pub mod Steps
+pub mod Bytes
+pub mod Quiet
+pub mod Law
