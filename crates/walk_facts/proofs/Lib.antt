@@ -3,3 +3,5 @@ mod Writes
 mod Moves
 mod Rights
 mod Quiet
+mod Links
+mod Givens

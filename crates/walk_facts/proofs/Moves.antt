@@ -1,6 +1,6 @@
 -- What an instruction reads and writes, by what its access meets: it reads where all may be read, and writes where all may be
 -- written.
-use Rattle.std.specs.Prelude.{◌≡◌, ℕ, zero, suc, ◌*◌, ◌/◌, ◌^◌, ◌<◌, ◌≤◌, Bool, true, false, cond, ◌&&◌, ◌||◌, List, [], length, nat_eq, Option, Some, None, is_some, Ok, refl}
+use Rattle.std.specs.Prelude.{◌≡◌, ℕ, zero, suc, ◌*◌, ◌/◌, ◌^◌, ◌<◌, ◌≤◌, Bool, true, false, cond, ◌&&◌, ◌||◌, List, [], length, nat_eq, slice_index, Option, Some, None, is_some, Ok, refl}
 use Rattle.std.proofs.Common.{sym, ◌∙◌, ap, arith}
 use Rattle.std.proofs.lemmas.Bool.{and_from, and_parts, false≢true}
 use Rattle.elf_image.specs.Memory.{bytes_of, writes_of}
@@ -94,6 +94,14 @@ kind_buffers l reach =
 
 -- ---- rights
 
+-- numbers below 2 ^ 8
+abbrev pub AreBytes : List ℕ → Type 0
+AreBytes bytes = (k : ℕ) → k < length bytes → slice_index bytes k < 2 ^ 8
+
+-- what a read call got are bytes
+abbrev pub GetsBytes : Outcome → Type 0
+GetsBytes o = (want : ℕ) (bytes : List ℕ) → note_in o ≡ note.Called (call.Read want bytes) → AreBytes bytes
+
 -- What an instruction reads may be read; what it writes are bytes from its access's address on, no more than the access has,
 -- where all may be written.
 pub record Moves (l : Local) (i : Instr) (reach : Reach) (o : Outcome) : Type 0 where
@@ -102,6 +110,7 @@ pub record Moves (l : Local) (i : Instr) (reach : Reach) (o : Outcome) : Type 0 
   pub writes : writes_in o ≡ writes_of (access_of l i).address written []
   pub within : length written ≤ (access_of l i).count
   pub writable : (k : ℕ) → k < length written → reach.writable ≡ true
+  pub bytes : GetsBytes o → AreBytes written
 
 -- an instruction that reads nothing, whatever it shows
 pub no_read : (i : Instr) (o : Outcome) → ((shown : Note) → has_read (Ok i) shown ≡ false) → reads_in (Ok i) o ≡ false
@@ -119,6 +128,7 @@ silent l i reach o reads writes = record {
   writes = writes;
   within = omega arith;
   writable = λ (k : ℕ) (less : k < 0). absurd (omega (arith, less));
+  bytes = λ (gets : GetsBytes o) (k : ℕ) (less : k < 0). absurd (omega (arith, less));
 }
 
 moves_load : (l : Local) (i : Instr) (reach : Reach) (rd : ℕ) (extend : ℕ → ℕ) (bytes : Option (List ℕ)) → reach.bytes ≡ bytes → Moves l i reach (loads l rd extend bytes)
@@ -129,24 +139,34 @@ moves_load l i reach rd extend (Some bytes) e = record {
   writes = refl;
   within = omega arith;
   writable = λ (k : ℕ) (less : k < 0). absurd (omega (arith, less));
+  bytes = λ (gets : GetsBytes (loads l rd extend (Some bytes))) (k : ℕ) (less : k < 0). absurd (omega (arith, less));
 }
 
 moves_write : (l : Local) (i : Instr) (reach : Reach) (may : Bool) (after : Local) (address : ℕ) (bytes : List ℕ) (fault : Cause)
-    → (access_of l i).address ≡ address → length bytes ≤ (access_of l i).count → (may ≡ true → reach.writable ≡ true)
+    → (access_of l i).address ≡ address → length bytes ≤ (access_of l i).count → AreBytes bytes → (may ≡ true → reach.writable ≡ true)
     → (has_read (Ok i) note.Nothing ≡ true → may ≡ true → is_some reach.bytes ≡ true)
     → Moves l i reach (cond may (Goes after (writes_of address bytes []) note.Nothing) (Faults fault))
-moves_write l i reach true after address bytes fault at few writable reads = record {
+moves_write l i reach true after address bytes fault at few small writable reads = record {
   read = λ (e : has_read (Ok i) note.Nothing ≡ true). reads e refl;
   written = bytes;
   writes = ap (λ (a : ℕ). writes_of a bytes []) (sym at);
   within = few;
   writable = λ (k : ℕ) (less : k < length bytes). writable refl;
+  bytes = λ (gets : GetsBytes (Goes after (writes_of address bytes []) note.Nothing)). small;
 }
-moves_write l i reach false after address bytes fault at few writable reads = silent l i reach (Faults fault) refl refl
+moves_write l i reach false after address bytes fault at few small writable reads = silent l i reach (Faults fault) refl refl
 
 length-bytes_of : (n value : ℕ) → length (bytes_of n value) ≡ n
 length-bytes_of zero value = refl
 length-bytes_of (suc n) value = ap suc (length-bytes_of n (value / 2 ^ 8))
+
+bytes-bytes_of : (n value : ℕ) → AreBytes (bytes_of n value)
+bytes-bytes_of zero value k less = absurd (omega (arith, less))
+bytes-bytes_of (suc n) value zero less = omega arith
+bytes-bytes_of (suc n) value (suc k) less = bytes-bytes_of n (value / 2 ^ 8) k (omega (arith, less))
+
+no_bytes : AreBytes []
+no_bytes k less = absurd (omega (arith, less))
 
 amo_writable : (address : ℕ) (reach : Reach) → may_amo address reach ≡ true → reach.writable ≡ true
 amo_writable address reach e = (and_parts (is_some reach.bytes) reach.writable (and_parts (is_aligned address) (is_some reach.bytes && reach.writable) e).1).1
@@ -154,10 +174,10 @@ amo_writable address reach e = (and_parts (is_some reach.bytes) reach.writable (
 amo_readable : (address : ℕ) (reach : Reach) → may_amo address reach ≡ true → is_some reach.bytes ≡ true
 amo_readable address reach e = (and_parts (is_some reach.bytes) reach.writable (and_parts (is_aligned address) (is_some reach.bytes && reach.writable) e).1).0
 
-moves_amo : (l : Local) (i : Instr) (reach : Reach) (after : Local) (address : ℕ) (bytes : List ℕ) → (access_of l i).address ≡ address → length bytes ≤ (access_of l i).count
+moves_amo : (l : Local) (i : Instr) (reach : Reach) (after : Local) (address : ℕ) (bytes : List ℕ) → (access_of l i).address ≡ address → length bytes ≤ (access_of l i).count → AreBytes bytes
     → Moves l i reach (cond (may_amo address reach) (Goes after (writes_of address bytes []) note.Nothing) (Faults cause.AmoFault))
-moves_amo l i reach after address bytes at few =
-    moves_write l i reach (may_amo address reach) after address bytes cause.AmoFault at few (amo_writable address reach)
+moves_amo l i reach after address bytes at few small =
+    moves_write l i reach (may_amo address reach) after address bytes cause.AmoFault at few small (amo_writable address reach)
     (λ (reads : has_read (Ok i) note.Nothing ≡ true). amo_readable address reach)
 
 moves_either : (l : Local) (i : Instr) (reach : Reach) (b : Bool) (x y : Outcome) → Moves l i reach x → Moves l i reach y → Moves l i reach (cond b x y)
@@ -177,6 +197,7 @@ moves_call l reach thread joined reply (kind.Write bytes) buffers few = record {
   writes = refl;
   within = omega arith;
   writable = λ (k : ℕ) (less : k < 0). absurd (omega (arith, less));
+  bytes = λ (gets : GetsBytes (calls_out l thread joined (call.Write bytes))) (k : ℕ) (less : k < 0). absurd (omega (arith, less));
 }
 moves_call l reach thread joined reply (kind.Read want) buffers few = record {
   read = λ (reads : false ≡ true). absurd (false≢true reads);
@@ -187,6 +208,7 @@ moves_call l reach thread joined reply (kind.Read want) buffers few = record {
       let count : (buffer_of l).count ≡ second_argument l = ap (λ (a : Access). a.count) buffers.0 in
       omega (arith, asked, count, buffers.1);
   writable = λ (k : ℕ) (less : k < length reply.bytes). buffers.2;
+  bytes = λ (gets : GetsBytes (calls_out l thread joined (call.Read want reply.bytes))). gets want reply.bytes refl;
 }
 moves_call l reach thread joined reply (kind.Exit code) buffers few = silent l instr.Ecall reach _ refl refl
 moves_call l reach thread joined reply kind.EndThread buffers few = silent l instr.Ecall reach _ refl refl
@@ -221,7 +243,7 @@ moves l (instr.Load op rd rs1 offset) heard few = moves_load l (instr.Load op rd
 moves l (instr.Store op rs1 rs2 offset) heard few =
     let many : length (bytes_of (store_size op) (register l rs2)) ≡ store_size op = length-bytes_of (store_size op) (register l rs2) in
     moves_write l (instr.Store op rs1 rs2 offset) heard.reach heard.reach.writable (onward l) (plus_offset (register l rs1) offset)
-    (bytes_of (store_size op) (register l rs2)) cause.StoreFault refl (omega (arith, many)) (λ (e : heard.reach.writable ≡ true). e)
+    (bytes_of (store_size op) (register l rs2)) cause.StoreFault refl (omega (arith, many)) (bytes-bytes_of (store_size op) (register l rs2)) (λ (e : heard.reach.writable ≡ true). e)
     (λ (reads : false ≡ true). absurd (false≢true reads))
 moves l (instr.Imm op rd rs1 imm) heard few = silent l (instr.Imm op rd rs1 imm) heard.reach _ refl refl
 moves l (instr.Op op rd rs1 rs2) heard few = silent l (instr.Op op rd rs1 rs2) heard.reach _ refl refl
@@ -229,14 +251,14 @@ moves l (instr.Fence rd rs1 imm) heard few = silent l (instr.Fence rd rs1 imm) h
 moves l instr.Ecall heard few = moves_call l heard.reach heard.thread heard.joined heard.reply (kind_at l heard.reach) (kind_buffers l heard.reach) few
 moves l instr.Ebreak heard few = silent l instr.Ebreak heard.reach _ refl refl
 moves l (instr.LoadReserved rd rs1 aq rl) heard few =
-    moves_amo l (instr.LoadReserved rd rs1 aq rl) heard.reach (onward (with_register l rd (word_in heard.reach))) (register l rs1) [] refl (omega arith)
+    moves_amo l (instr.LoadReserved rd rs1 aq rl) heard.reach (onward (with_register l rd (word_in heard.reach))) (register l rs1) [] refl (omega arith) no_bytes
 moves l (instr.StoreConditional rd rs1 rs2 aq rl) heard few =
     let i : Instr = instr.StoreConditional rd rs1 rs2 aq rl in
     let many : length (bytes_of 4 (register l rs2)) ≡ 4 = length-bytes_of 4 (register l rs2) in
     moves_either l i heard.reach heard.won _ _
-    (moves_amo l i heard.reach (onward (with_register l rd 0)) (register l rs1) (bytes_of 4 (register l rs2)) refl (omega (arith, many)))
-    (moves_amo l i heard.reach (onward (with_register l rd 1)) (register l rs1) [] refl (omega arith))
+    (moves_amo l i heard.reach (onward (with_register l rd 0)) (register l rs1) (bytes_of 4 (register l rs2)) refl (omega (arith, many)) (bytes-bytes_of 4 (register l rs2)))
+    (moves_amo l i heard.reach (onward (with_register l rd 1)) (register l rs1) [] refl (omega arith) no_bytes)
 moves l (instr.Amo op rd rs1 rs2 aq rl) heard few =
     let value : ℕ = amo_of op (word_in heard.reach) (register l rs2) in
     let many : length (bytes_of 4 value) ≡ 4 = length-bytes_of 4 value in
-    moves_amo l (instr.Amo op rd rs1 rs2 aq rl) heard.reach (onward (with_register l rd (word_in heard.reach))) (register l rs1) (bytes_of 4 value) refl (omega (arith, many))
+    moves_amo l (instr.Amo op rd rs1 rs2 aq rl) heard.reach (onward (with_register l rd (word_in heard.reach))) (register l rs1) (bytes_of 4 value) refl (omega (arith, many)) (bytes-bytes_of 4 value)

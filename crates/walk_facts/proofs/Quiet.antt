@@ -167,7 +167,7 @@ by_access : (b : Bool) → (b ≡ true → ⊥) → b ≡ false
 by_access true no_one = absurd (no_one refl)
 by_access false no_one = refl
 
-quiet_place : (image : Layout) (log : Log) (walk : Walk) (given : Given) (v : Visits) (p : Pos) → IsWalk image log walk → IsGuided image (told log walk) given v
+pub quiet_place : (image : Layout) (log : Log) (walk : Walk) (given : Given) (v : Visits) (p : Pos) → IsWalk image log walk → IsGuided image (told log walk) given v
     → IsPlace (told log walk) p → (IsAccess log walk p → ⊥) → IsQuiet image (at v p)
 quiet_place image log walk given v p is guided place none =
     let seen : Seen = seen_before image (told log walk) v p.thread p.step in

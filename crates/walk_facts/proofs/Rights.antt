@@ -17,10 +17,12 @@ use Rattle.odr_log.specs.declared.log.Call.TheVariants as call
 use Rattle.odr_log.specs.declared.log.CallRec.{CallRec}
 use Rattle.odr_log.specs.declared.log.Cause.{Cause}
 use Rattle.odr_log.specs.declared.log.Log.{Log}
+use Rattle.odr_log.specs.declared.log.Pos.{Pos}
 use Rattle.odr_log.specs.Tape.{tape_of}
 use Rattle.rv_model.specs.declared.hearing.Access.{Access}
 use Rattle.rv_model.specs.declared.hearing.Heard.{Heard}
 use Rattle.rv_model.specs.declared.hearing.Outcome.{Outcome}
+use Rattle.rv_model.specs.declared.hearing.Outcome.TheVariants.{Faults}
 use Rattle.rv_model.specs.declared.hearing.Reach.{Reach}
 use Rattle.rv_model.specs.declared.hearing.Reply.{Reply}
 use Rattle.rv_model.specs.declared.state.Calls.{Calls}
@@ -32,13 +34,14 @@ use Rattle.rv_model.specs.Instruction.{access_at, access_of, act_at}
 use Rattle.rv_model.specs.Noted.{note_in, writes_in}
 use Rattle.rv_model.specs.Values.{load_size, store_size}
 use Rattle.guided_walk.specs.Fits.{byte_address, reads_in}
-use Rattle.guided_walk.specs.Guided.{Seen, Visit, at, hears, instr_of, joined_from, joins, met, seen_before, visit}
-use Rattle.guided_walk.specs.Told.{noted, told}
+use Rattle.guided_walk.specs.Guided.{Given, IsGuided, Seen, Visit, Visits, at, hears, instr_of, joined_from, joins, met, seen_before, visit}
+use Rattle.guided_walk.specs.Told.{IsPlace, noted, told}
 use Rattle.guided_walk.proofs.Facts.{place_called}
 use Rattle.guided_walk.proofs.Records.{Among, rec}
-use Rattle.walk_facts.specs.Bytes.{HasRights, MayRead, MayWrite}
+use Rattle.rv_model.specs.Walk.{IsWalk, Walk}
+use Rattle.walk_facts.specs.Bytes.{MayRead, MayWrite}
 use Rattle.walk_facts.specs.Law.{RightsLaw}
-use Rattle.walk_facts.proofs.Moves.{Moves, ReadsFew, moves}
+use Rattle.walk_facts.proofs.Moves.{AreBytes, GetsBytes, Moves, ReadsFew, moves}
 
 -- ---- each byte of what may all be read or written
 
@@ -122,13 +125,14 @@ reads_few log fit t s want bytes has =
 
 -- ---- a step
 
-record RightsBy (image : Layout) (l : Local) (r : Result Instr Cause) (o : Outcome) : Type 0 where
-  few : (access_at l r).count ≤ 256
-  reads : (i : ℕ) → i < cond (reads_in r o) (access_at l r).count 0 → MayRead image (byte_address (access_at l r).address i)
-  written : List ℕ
-  writes : writes_in o ≡ writes_of (access_at l r).address written []
-  within : length written ≤ (access_at l r).count
-  writable : (i : ℕ) → i < length written → MayWrite image (byte_address (access_at l r).address i)
+pub record RightsBy (image : Layout) (l : Local) (r : Result Instr Cause) (o : Outcome) : Type 0 where
+  pub few : (access_at l r).count ≤ 256
+  pub reads : (i : ℕ) → i < cond (reads_in r o) (access_at l r).count 0 → MayRead image (byte_address (access_at l r).address i)
+  pub written : List ℕ
+  pub writes : writes_in o ≡ writes_of (access_at l r).address written []
+  pub within : length written ≤ (access_at l r).count
+  pub writable : (i : ℕ) → i < length written → MayWrite image (byte_address (access_at l r).address i)
+  pub bytes : GetsBytes o → AreBytes written
 
 read_by : (b : Bool) (n i : ℕ) → i < cond b n 0 → (b ≡ true) × (i < n)
 read_by true n i less = (refl, less)
@@ -153,6 +157,7 @@ rights_of image f l i reach o is moved =
           let all : all_writable cells access.address access.count ≡ true = ap (λ (x : Reach). x.writable) (sym is) ∙ moved.writable k less in
           may_write image (byte_address access.address k) (cells (byte_address access.address k)) refl
           (each_writable cells access.address access.count k all (omega (arith, less, moved.within)));
+      bytes = moved.bytes;
     }
 
 rights_at : (image : Layout) (f : ℕ → ℕ) (l : Local) (r : Result Instr Cause) (heard : Heard) → heard.reach ≡ met image f (access_at l r) → ReadsFew (act_at l r heard)
@@ -164,11 +169,13 @@ rights_at image f l (Err fault) heard is few = record {
   writes = refl;
   within = omega arith;
   writable = λ (i : ℕ) (less : i < 0). absurd (omega (arith, less));
+  bytes = λ (gets : GetsBytes (Faults fault)) (i : ℕ) (less : i < 0). absurd (omega (arith, less));
 }
 rights_at image f l (Ok i) heard is few = rights_of image f l i heard.reach _ is (moves l i heard few)
 
-pub rights_law : RightsLaw
-rights_law image log walk given v p is fit guided place =
+pub rights_here : (image : Layout) (log : Log) (walk : Walk) (given : Given) (v : Visits) (p : Pos) → IsWalk image log walk → CallsFit log
+    → IsGuided image (told log walk) given v → IsPlace (told log walk) p → RightsBy image (at v p).seen.local (instr_of image (at v p).seen) (at v p).outcome
+rights_here image log walk given v p is fit guided place =
     let seen : Seen = seen_before image (told log walk) v p.thread p.step in
     let here : Visit = visit image (told log walk) given v p.thread p.step in
     let heard : Heard = hears image (told log walk) given p.thread p.step seen (joined_from (told log walk) v (joins (noted (told log walk) p))) in
@@ -176,12 +183,17 @@ rights_law image log walk given v p is fit guided place =
     let few : ReadsFew here.outcome = λ (want : ℕ) (bytes : List ℕ) (e : note_in here.outcome ≡ note.Called (call.Read want bytes)).
     reads_few log fit p.thread p.step want bytes
     (place_called image log walk is p (call.Read want bytes) (sym (guided.shows p place) ∙ ap (λ (x : Visit). note_in x.outcome) solves ∙ e)) in
-    let by : RightsBy image seen.local (instr_of image seen) here.outcome = rights_at image (given.bytes p.thread p.step) seen.local (instr_of image seen) heard refl few in
-    subst (HasRights image) (sym solves) (record {
+    subst (λ (x : Visit). RightsBy image x.seen.local (instr_of image x.seen) x.outcome) (sym solves)
+    (rights_at image (given.bytes p.thread p.step) seen.local (instr_of image seen) heard refl few)
+
+pub rights_law : RightsLaw
+rights_law image log walk given v p is fit guided place =
+    let by : RightsBy image (at v p).seen.local (instr_of image (at v p).seen) (at v p).outcome = rights_here image log walk given v p is fit guided place in
+    record {
       few = by.few;
       reads = by.reads;
       written = by.written;
       writes = by.writes;
       within = by.within;
       may_write = by.writable;
-    })
+    }

@@ -1,5 +1,5 @@
 -- Laws of the steps of guided walks, each the contract of a public function.
-use Rattle.std.specs.Prelude.{◌≡◌, ℕ, Some}
+use Rattle.std.specs.Prelude.{◌≡◌, ◌↔◌, ℕ, true, List, Some}
 use Rattle.elf_image.specs.Layout.{Layout}
 use Rattle.odr_log.specs.declared.log.Cause.{Cause}
 use Rattle.odr_log.specs.declared.log.End.TheVariants as end
@@ -7,12 +7,16 @@ use Rattle.odr_log.specs.declared.log.Log.{Log}
 use Rattle.odr_log.specs.declared.log.Pos.{Pos}
 use Rattle.rv_model.specs.declared.walk.FaultPlace.{FaultPlace}
 use Rattle.rv_model.specs.CallsFit.{CallsFit}
+use Rattle.rv_model.specs.Instruction.{wins}
 use Rattle.rv_model.specs.RecordedOrder.{Counted}
 use Rattle.rv_model.specs.Run.{logged}
 use Rattle.rv_model.specs.Walk.{IsWalk, Walk}
+use Rattle.guided_walk.specs.Fits.{reserved}
 use Rattle.guided_walk.specs.Guided.{Given, IsGuided, Visits, at}
+use Rattle.guided_walk.specs.Orders.{In}
 use Rattle.guided_walk.specs.Told.{IsPlace, told}
 use Rattle.walk_facts.specs.Bytes.{HasRights}
+use Rattle.walk_facts.specs.Links.{AreNext, HasReserved, link_address}
 use Rattle.walk_facts.specs.Quiet.{FitsAnyway, IsQuiet}
 use Rattle.walk_facts.specs.Steps.{IsAccess, StandsAt, StopsAt, place_of_step, step_of}
 
@@ -37,3 +41,15 @@ abbrev pub QuietLaw : Type 0
 QuietLaw = (image : Layout) (log : Log) (walk : Walk) (given : Given) (visits : Visits) (p : Pos) → IsWalk image log walk
     → IsGuided image (told log walk) given visits → IsPlace (told log walk) p → (IsAccess log walk p → ⊥)
     → IsQuiet image (at visits p) × ((other : Given) → FitsAnyway image other p (at visits p))
+
+-- The link of a step is the address of the load-reserved to which it looks back.
+abbrev pub LinkLaw : Type 0
+LinkLaw = (image : Layout) (log : Log) (walk : Walk) (given : Given) (visits : Visits) (p : Pos) → IsWalk image log walk
+    → IsGuided image (told log walk) given visits → IsPlace (told log walk) p
+    → (at visits p).seen.link ≡ link_address image walk visits p.thread p.step
+
+-- What a thread has reserved after counted steps.
+abbrev pub ReservedLaw : Type 0
+ReservedLaw = (image : Layout) (log : Log) (walk : Walk) (given : Given) (visits : Visits) (done : List Pos) (thread address : ℕ) → IsWalk image log walk
+    → IsGuided image (told log walk) given visits → AreNext done → ((p : Pos) → In p done → Counted log p)
+    → (wins (Some address) (reserved image visits thread done) ≡ true) ↔ HasReserved image walk visits done thread address

@@ -1,4 +1,6 @@
 pub mod Steps
 pub mod Bytes
 pub mod Quiet
+pub mod Links
+pub mod Givens
 pub mod Law

@@ -1,5 +1,7 @@
 ghost use Rattle.walk_facts.specs.Bytes.{AddressLaw, WritesLaw};
-ghost use Rattle.walk_facts.specs.Law.{FaultLaw, InstructionLaw, QuietLaw, RightsLaw};
+ghost use Rattle.walk_facts.specs.Givens.{BytesLaw, GivenLaw};
+ghost use Rattle.walk_facts.specs.Law.{FaultLaw, InstructionLaw, LinkLaw, QuietLaw, ReservedLaw, RightsLaw};
+ghost use Rattle.walk_facts.specs.Links.{LooksBackLaw};
 
 /// The instruction at a step of a guided walk is the one that the log's walk has there, and so it is at the fault.
 pub fn steps_stand_where_walked()
@@ -23,4 +25,19 @@ pub fn accesses_have_rights()
 /// whatever is given fits it.
 pub fn other_steps_are_quiet()
     ensures { QuietLaw }
+{}
+
+/// The link of a step of a guided walk is the address of the load-reserved to which it looks back: the last one of its thread
+/// before it with no store-conditional between. A thread has that address reserved until another thread writes to the word.
+pub fn links_look_back()
+    ensures back { LooksBackLaw }
+    ensures link { LinkLaw }
+    ensures reserved { ReservedLaw }
+{}
+
+/// A guided walk, and what it fits, is the same by anything that is given alike at its accesses as far as they ask. Where it
+/// fits a schedule each byte that it read is below 2^8, so it may as well be given bytes.
+pub fn walks_ask_at_accesses()
+    ensures given { GivenLaw }
+    ensures bytes { BytesLaw }
 {}

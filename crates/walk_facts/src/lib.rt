@@ -2,8 +2,4 @@
 //! of a run the walk tells.
 #![tactic(auto)]
 
-mod law;
-
-pub use law::{
-    accesses_have_rights, bytes_stand_in_a_row, other_steps_are_quiet, steps_stand_where_walked,
-};
+pub mod law;
