@@ -5,3 +5,4 @@ mod Rights
 mod Quiet
 mod Links
 mod Givens
+mod Accesses

@@ -1,11 +1,12 @@
 -- Laws of the steps of guided walks, each the contract of a public function.
-use Rattle.std.specs.Prelude.{◌≡◌, ◌↔◌, ℕ, true, List, Some}
+use Rattle.std.specs.Prelude.{◌≡◌, ◌↔◌, ◌⊎◌, ℕ, ◌<◌, true, List, length, Some}
 use Rattle.elf_image.specs.Layout.{Layout}
 use Rattle.odr_log.specs.declared.log.Cause.{Cause}
 use Rattle.odr_log.specs.declared.log.End.TheVariants as end
 use Rattle.odr_log.specs.declared.log.Log.{Log}
 use Rattle.odr_log.specs.declared.log.Pos.{Pos}
 use Rattle.rv_model.specs.declared.walk.FaultPlace.{FaultPlace}
+use Rattle.rv_model.specs.Accesses.{accesses_of}
 use Rattle.rv_model.specs.CallsFit.{CallsFit}
 use Rattle.rv_model.specs.Instruction.{wins}
 use Rattle.rv_model.specs.RecordedOrder.{Counted}
@@ -13,7 +14,7 @@ use Rattle.rv_model.specs.Run.{logged}
 use Rattle.rv_model.specs.Walk.{IsWalk, Walk}
 use Rattle.guided_walk.specs.Fits.{reserved}
 use Rattle.guided_walk.specs.Guided.{Given, IsGuided, Visits, at}
-use Rattle.guided_walk.specs.Orders.{In}
+use Rattle.guided_walk.specs.Orders.{In, Lists, Stands}
 use Rattle.guided_walk.specs.Told.{IsPlace, told}
 use Rattle.walk_facts.specs.Bytes.{HasRights}
 use Rattle.walk_facts.specs.Links.{AreNext, HasReserved, link_address}
@@ -53,3 +54,17 @@ abbrev pub ReservedLaw : Type 0
 ReservedLaw = (image : Layout) (log : Log) (walk : Walk) (given : Given) (visits : Visits) (done : List Pos) (thread address : ℕ) → IsWalk image log walk
     → IsGuided image (told log walk) given visits → AreNext done → ((p : Pos) → In p done → Counted log p)
     → (wins (Some address) (reserved image visits thread done) ≡ true) ↔ HasReserved image walk visits done thread address
+
+-- one place is of an earlier thread than another, or is an earlier step of its thread
+abbrev pub IsEarlier : Pos → Pos → Type 0
+IsEarlier p q = (p.thread < q.thread) ⊎ ((p.thread ≡ q.thread) × (p.step < q.step))
+
+-- The accesses of a walk are the counted steps that are accesses, each once, thread after thread and step after step; each
+-- list of these is as long.
+pub record AreAccesses (log : Log) (walk : Walk) : Type 0 where
+  pub lists : Lists (IsAccess log walk) (accesses_of walk)
+  pub sorted : (p q : Pos) → Stands (accesses_of walk) p q → IsEarlier p q
+  pub count : (steps : List Pos) → Lists (IsAccess log walk) steps → length steps ≡ length (accesses_of walk)
+
+abbrev pub AccessesLaw : Type 0
+AccessesLaw = (image : Layout) (log : Log) (walk : Walk) → IsWalk image log walk → AreAccesses log walk

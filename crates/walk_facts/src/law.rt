@@ -1,6 +1,6 @@
 ghost use Rattle.walk_facts.specs.Bytes.{AddressLaw, WritesLaw};
 ghost use Rattle.walk_facts.specs.Givens.{BytesLaw, GivenLaw};
-ghost use Rattle.walk_facts.specs.Law.{FaultLaw, InstructionLaw, LinkLaw, QuietLaw, ReservedLaw, RightsLaw};
+ghost use Rattle.walk_facts.specs.Law.{AccessesLaw, FaultLaw, InstructionLaw, LinkLaw, QuietLaw, ReservedLaw, RightsLaw};
 ghost use Rattle.walk_facts.specs.Links.{LooksBackLaw};
 
 /// The instruction at a step of a guided walk is the one that the log's walk has there, and so it is at the fault.
@@ -40,4 +40,9 @@ pub fn links_look_back()
 pub fn walks_ask_at_accesses()
     ensures given { GivenLaw }
     ensures bytes { BytesLaw }
+{}
+
+/// The accesses of a walk are the counted steps that are accesses, each once and in order; each list of them is as long.
+pub fn accesses_are_listed()
+    ensures { AccessesLaw }
 {}
