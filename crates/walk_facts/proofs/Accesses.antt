@@ -12,13 +12,11 @@ use Rattle.rv_model.specs.Accesses.{accesses_by, accesses_from, accesses_of, is_
 use Rattle.rv_model.specs.RecordedOrder.{Counted}
 use Rattle.rv_model.specs.Walk.{IsWalk, ThreadWalk, Walk, notes_of, places_of}
 use Rattle.guided_walk.specs.Orders.{Distinct, In, Lists, Stands}
-use Rattle.guided_walk.specs.Told.{noted, told}
 use Rattle.guided_walk.proofs.Facts.{in_log, noted_step}
 use Rattle.guided_walk.proofs.NeedsOrder.{counted_place}
 use Rattle.guided_walk.proofs.Placing.{in-append, in_left}
-use Rattle.guided_walk.proofs.Table.{same_pos}
 use Rattle.guided_walk.proofs.Walks.{leads_length}
-use Rattle.walk_facts.specs.Law.{AccessesLaw, AreAccesses, IsEarlier}
+use Rattle.walk_facts.specs.Law.{AccessesLaw, IsEarlier}
 use Rattle.walk_facts.specs.Steps.{IsAccess, instr_of_step, no_place, step_of}
 use Rattle.walk_facts.proofs.Addresses.{noted_within}
 

@@ -6,3 +6,5 @@ mod Quiet
 mod Links
 mod Givens
 mod Accesses
+mod Runs
+mod Places

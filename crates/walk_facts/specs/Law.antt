@@ -14,8 +14,10 @@ use Rattle.rv_model.specs.Run.{logged}
 use Rattle.rv_model.specs.Walk.{IsWalk, Walk}
 use Rattle.guided_walk.specs.Fits.{reserved}
 use Rattle.guided_walk.specs.Guided.{Given, IsGuided, Visits, at}
-use Rattle.guided_walk.specs.Orders.{In, Lists, Stands}
+use Rattle.guided_walk.specs.Orders.{Distinct, In, Lists, Stands}
+use Rattle.guided_walk.specs.Schedules.{places}
 use Rattle.guided_walk.specs.Told.{IsPlace, told}
+use Rattle.guided_walk.specs.Woven.{Woven}
 use Rattle.walk_facts.specs.Bytes.{HasRights}
 use Rattle.walk_facts.specs.Links.{AreNext, HasReserved, link_address}
 use Rattle.walk_facts.specs.Quiet.{FitsAnyway, IsQuiet}
@@ -68,3 +70,15 @@ pub record AreAccesses (log : Log) (walk : Walk) : Type 0 where
 
 abbrev pub AccessesLaw : Type 0
 AccessesLaw = (image : Layout) (log : Log) (walk : Walk) → IsWalk image log walk → AreAccesses log walk
+
+-- The steps of a woven schedule: each place of the walk once, and the steps of a thread in their order.
+pub record ArePlaces (log : Log) (walk : Walk) (schedule : List ℕ) : Type 0 where
+  pub once : Distinct (places schedule)
+  pub all : (p : Pos) → IsPlace (told log walk) p → In p (places schedule)
+  pub only : (p : Pos) → In p (places schedule) → IsPlace (told log walk) p
+  pub earlier : (q p : Pos) → In p (places schedule) → q.thread ≡ p.thread → q.step < p.step → Stands (places schedule) q p
+  pub rises : (q p : Pos) → Stands (places schedule) q p → q.thread ≡ p.thread → q.step < p.step
+
+abbrev pub PlacesLaw : Type 0
+PlacesLaw = (image : Layout) (log : Log) (walk : Walk) (pairs : List (Pos × Pos)) (schedule : List ℕ) → IsWalk image log walk → CallsFit log
+    → Woven log pairs schedule → ArePlaces log walk schedule

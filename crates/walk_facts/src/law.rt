@@ -1,7 +1,8 @@
 ghost use Rattle.walk_facts.specs.Bytes.{AddressLaw, WritesLaw};
 ghost use Rattle.walk_facts.specs.Givens.{BytesLaw, GivenLaw};
-ghost use Rattle.walk_facts.specs.Law.{AccessesLaw, FaultLaw, InstructionLaw, LinkLaw, QuietLaw, ReservedLaw, RightsLaw};
+ghost use Rattle.walk_facts.specs.Law.{AccessesLaw, FaultLaw, InstructionLaw, LinkLaw, PlacesLaw, QuietLaw, ReservedLaw, RightsLaw};
 ghost use Rattle.walk_facts.specs.Links.{LooksBackLaw};
+ghost use Rattle.walk_facts.specs.Runs.{EndLaw, RunLaw};
 
 /// The instruction at a step of a guided walk is the one that the log's walk has there, and so it is at the fault.
 pub fn steps_stand_where_walked()
@@ -45,4 +46,16 @@ pub fn walks_ask_at_accesses()
 /// The accesses of a walk are the counted steps that are accesses, each once and in order; each list of them is as long.
 pub fn accesses_are_listed()
     ensures { AccessesLaw }
+{}
+
+/// In the run of a woven schedule that a guided walk fits each step is what the walk has there; and the run of a log of
+/// version 1 ends with each thread where the walk has it after its counted steps.
+pub fn runs_are_walks()
+    ensures steps { RunLaw }
+    ensures ends { EndLaw }
+{}
+
+/// A woven schedule has each place of the walk once, and the steps of a thread in their order.
+pub fn schedules_list_places()
+    ensures { PlacesLaw }
 {}
