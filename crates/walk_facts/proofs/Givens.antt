@@ -1,8 +1,7 @@
 -- What is given to a walk matters where the walk asks for it, which is at accesses alone; and where it fits, its bytes are bytes.
-use Rattle.std.specs.Prelude.{◌≡◌, ℕ, suc, ◌^◌, ◌<◌, ◌⊎◌, Bool, true, false, cond, List, [], ◌∷◌, ◌++◌, length, nat_eq, Contains, Option, option_map, Some, None, refl}
+use Rattle.std.specs.Prelude.{◌≡◌, ℕ, suc, ◌^◌, ◌<◌, Bool, true, false, cond, List, [], ◌∷◌, ◌++◌, length, nat_eq, Contains, Option, option_map, Some, None, refl}
 use Rattle.std.proofs.Common.{sym, ◌∙◌, subst, arith, inl, inr}
 use Rattle.std.proofs.Math.Nat.{mod-eq_of_lt}
-use Rattle.std.proofs.lemmas.Bool.{false≢true}
 use Rattle.std.proofs.lemmas.Option.{none-some}
 use Rattle.elf_image.specs.declared.cell.Cell.{Cell}
 use Rattle.elf_image.specs.declared.write.Write.{Write}
@@ -13,7 +12,6 @@ use Rattle.odr_log.specs.declared.log.Call.TheVariants as call
 use Rattle.odr_log.specs.declared.log.Log.{Log}
 use Rattle.odr_log.specs.declared.log.Pos.{Pos}
 use Rattle.rv_model.specs.declared.state.Note.TheVariants as note
-use Rattle.rv_model.specs.Accesses.{is_access}
 use Rattle.rv_model.specs.CallsFit.{CallsFit}
 use Rattle.rv_model.specs.Noted.{note_in, writes_in}
 use Rattle.rv_model.specs.Walk.{IsWalk, Walk}
@@ -24,35 +22,18 @@ use Rattle.guided_walk.specs.Schedules.{places}
 use Rattle.guided_walk.specs.Told.{IsPlace, noted, told}
 use Rattle.guided_walk.specs.Woven.{Woven}
 use Rattle.guided_walk.proofs.Facts.{place_called}
-use Rattle.guided_walk.proofs.NeedsOrder.{among_contains, counted_place}
+use Rattle.guided_walk.proofs.NeedsOrder.{among_contains}
 use Rattle.guided_walk.proofs.Records.{rec}
 use Rattle.guided_walk.proofs.ScheduleLaw.{IsPlaced, placed}
-use Rattle.guided_walk.proofs.Whole.{place_kind}
 use Rattle.walk_flow.specs.Depends.{SameGiven}
 use Rattle.walk_flow.proofs.Given.{same_step}
 use Rattle.walk_facts.specs.Givens.{BytesLaw, GivenLaw, ReadsBytes, SameAtAccesses, ServesToo, narrowed}
 use Rattle.walk_facts.specs.Quiet.{IsQuiet}
-use Rattle.walk_facts.specs.Steps.{IsAccess, instr_of_step}
-use Rattle.walk_facts.proofs.Addresses.{noted_within}
 use Rattle.walk_facts.proofs.Moves.{AreBytes, GetsBytes}
-use Rattle.walk_facts.proofs.Quiet.{quiet_place}
+use Rattle.walk_facts.proofs.Quiet.{access_or, quiet_place}
 use Rattle.walk_facts.proofs.Rights.{RightsBy, rights_here}
 
 -- ---- at each place
-
-is_true_or : (b : Bool) → (b ≡ true) ⊎ (b ≡ true → ⊥)
-is_true_or true = inl refl
-is_true_or false = inr (λ (e : false ≡ true). false≢true e)
-
--- a place is an access or none
-access_or : (image : Layout) (log : Log) (walk : Walk) → IsWalk image log walk → (p : Pos) → IsPlace (told log walk) p → IsAccess log walk p ⊎ (IsAccess log walk p → ⊥)
-access_or image log walk is p place = elim (place_kind log walk p place) [
-  | inl within ↦ (elim (is_true_or (is_access (instr_of_step walk p) (noted (told log walk) p))) [
-    | inl yes_it ↦ inl (counted_place image log walk is p within, yes_it)
-    | inr no_it ↦ inr (λ (a : IsAccess log walk p). no_it a.1)
-  ])
-  | inr fault ↦ inr (λ (a : IsAccess log walk p). absurd (omega (arith, fault.at, noted_within image log walk is p a.0)))
-]
 
 same_quiet : (image : Layout) (one other : Given) (p : Pos) (visit : Visit) → IsQuiet image visit → SameGiven image one other p visit
 same_quiet image one other p visit quiet = record {

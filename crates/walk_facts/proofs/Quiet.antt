@@ -1,5 +1,5 @@
 -- A step that is no access, and the fault, leave memory and reservations alone.
-use Rattle.std.specs.Prelude.{◌≡◌, ℕ, ◌*◌, ◌/◌, ◌<◌, Bool, true, false, cond, List, [], ◌∷◌, length, map, Option, Some, None, Result, Ok, Err, refl}
+use Rattle.std.specs.Prelude.{◌≡◌, ℕ, ◌*◌, ◌/◌, ◌<◌, ◌⊎◌, Bool, true, false, cond, List, [], ◌∷◌, length, map, Option, Some, None, Result, Ok, Err, refl}
 use Rattle.std.specs.List.{range_with_len}
 use Rattle.std.proofs.Common.{sym, ◌∙◌, ap, subst, arith, inl, inr}
 use Rattle.std.proofs.lemmas.Bool.{false≢true}
@@ -42,7 +42,7 @@ use Rattle.guided_walk.proofs.Whole.{place_kind}
 use Rattle.walk_facts.specs.Law.{QuietLaw}
 use Rattle.walk_facts.specs.Quiet.{FitsAnyway, IsQuiet}
 use Rattle.walk_facts.specs.Steps.{IsAccess, instr_of_step}
-use Rattle.walk_facts.proofs.Addresses.{instr_is}
+use Rattle.walk_facts.proofs.Addresses.{instr_is, noted_within}
 use Rattle.walk_facts.proofs.Moves.{Buffers, kind_buffers, no_read, still_cond}
 
 record QuietBy (l : Local) (r : Result Instr Cause) (o : Outcome) : Type 0 where
@@ -188,6 +188,20 @@ quiet_place image log walk given v p is guided place none =
     ] in
     subst (IsQuiet image) (sym solves) (record { reads = by.reads; writes = by.writes; conditional = by.conditional })
 
+is_true_or : (b : Bool) → (b ≡ true) ⊎ (b ≡ true → ⊥)
+is_true_or true = inl refl
+is_true_or false = inr (λ (e : false ≡ true). false≢true e)
+
+-- a place is an access or none
+pub access_or : (image : Layout) (log : Log) (walk : Walk) → IsWalk image log walk → (p : Pos) → IsPlace (told log walk) p → IsAccess log walk p ⊎ (IsAccess log walk p → ⊥)
+access_or image log walk is p place = elim (place_kind log walk p place) [
+  | inl within ↦ (elim (is_true_or (is_access (instr_of_step walk p) (noted (told log walk) p))) [
+    | inl yes_it ↦ inl (counted_place image log walk is p within, yes_it)
+    | inr no_it ↦ inr (λ (a : IsAccess log walk p). no_it a.1)
+  ])
+  | inr fault ↦ inr (λ (a : IsAccess log walk p). absurd (omega (arith, fault.at, noted_within image log walk is p a.0)))
+]
+
 fits_anyway : (image : Layout) (given : Given) (p : Pos) (visit : Visit) → IsQuiet image visit → FitsAnyway image given p visit
 fits_anyway image given p visit quiet memory reservation = record {
   bytes = λ (i : ℕ) (less : i < read_count image visit). absurd (omega (arith, less, quiet.reads));
@@ -196,6 +210,8 @@ fits_anyway image given p visit quiet memory reservation = record {
 }
 
 pub quiet_law : QuietLaw
-quiet_law image log walk given v p is guided place none =
-    let quiet : IsQuiet image (at v p) = quiet_place image log walk given v p is guided place none in
-    (quiet, λ (other : Given). fits_anyway image other p (at v p) quiet)
+quiet_law image log walk given v p is guided place = elim (access_or image log walk is p place) [
+  | inl access ↦ inl access
+  | inr none ↦ (let quiet : IsQuiet image (at v p) = quiet_place image log walk given v p is guided place none in
+      inr (quiet, λ (other : Given). fits_anyway image other p (at v p) quiet))
+]

@@ -29,7 +29,7 @@ one_address a (suc i) zero p q e = absurd (omega (arith, p, sym (address_more a 
 one_address a (suc i) (suc j) p q e = omega (arith, p, q, sym (address_more a i) ∙ e ∙ address_more a j)
 
 pub address_law : AddressLaw
-address_law a i j p q = (address_in_row a i, one_address a i j p q)
+address_law a = record { row = λ (below : a < 2 ^ 32) (i : ℕ). address_in_row a i below; apart = one_address a }
 
 -- ---- members of lists of writes
 

@@ -34,10 +34,13 @@ pub record HasRights (image : Layout) (visit : Visit) : Type 0 where
 
 -- ---- addresses
 
--- Bytes of an access have addresses in a row, modulo 2 ^ 32, and no two of them have one.
+-- Bytes from an address on have addresses in a row, modulo 2 ^ 32, and of 2 ^ 32 bytes no two have one.
+pub record AreInRow (address : ℕ) : Type 0 where
+  pub row : address < 2 ^ 32 → (i : ℕ) → byte_address address i ≡ (address + i) % 2 ^ 32
+  pub apart : (i j : ℕ) → i < 2 ^ 32 → j < 2 ^ 32 → byte_address address i ≡ byte_address address j → i ≡ j
+
 abbrev pub AddressLaw : Type 0
-AddressLaw = (address i j : ℕ) → i < 2 ^ 32 → j < 2 ^ 32
-    → (address < 2 ^ 32 → byte_address address i ≡ (address + i) % 2 ^ 32) × (byte_address address i ≡ byte_address address j → i ≡ j)
+AddressLaw = (address : ℕ) → AreInRow address
 
 -- ---- writes
 
@@ -51,7 +54,8 @@ pub record IsByteAt (address : ℕ) (bytes : List ℕ) (write : Write) : Type 0 
 -- What is written from an address on: each of the bytes at its address, and nothing else.
 pub record AreWrites (address : ℕ) (bytes : List ℕ) : Type 0 where
   pub each : (write : Write) → Contains (writes_of address bytes []) write ↔ IsByteAt address bytes write
-  pub touched : (reserved : ℕ) → (touches (writes_of address bytes []) reserved ≡ true) ↔ ((i : ℕ) × (i < length bytes) × (byte_address address i / 4 ≡ reserved / 4))
+  pub touched : (reserved : ℕ) → (touches (writes_of address bytes []) reserved ≡ true)
+      ↔ ((i : ℕ) × (i < length bytes) × (byte_address address i / 4 ≡ reserved / 4))
   pub there : (before : Cells) (older : List Write) (i : ℕ) → i < length bytes
       → cells_after before (writes_of address bytes older) (byte_address address i)
       ≡ option_map (with_byte (slice_index bytes i)) (cells_after before older (byte_address address i))

@@ -24,7 +24,8 @@ SameAtAccesses image log walk one other visits = (p : Pos) → IsAccess log walk
 -- A walk by what is given is the walk by this too, and fits each woven schedule that it fits.
 pub record ServesToo (image : Layout) (log : Log) (walk : Walk) (one other : Given) (visits : Visits) : Type 0 where
   pub guided : IsGuided image (told log walk) other visits
-  pub fits : (pairs : List (Pos × Pos)) (schedule : List ℕ) → Woven log pairs schedule → Fits image one visits schedule → Fits image other visits schedule
+  pub fits : (pairs : List (Pos × Pos)) (schedule : List ℕ) → Woven log pairs schedule
+      → Fits image one visits schedule → Fits image other visits schedule
 
 abbrev pub GivenLaw : Type 0
 GivenLaw = (image : Layout) (log : Log) (walk : Walk) (one other : Given) (visits : Visits) → IsWalk image log walk → CallsFit log

@@ -30,8 +30,8 @@ InstructionLaw = (image : Layout) (log : Log) (walk : Walk) (given : Given) (vis
 
 -- The thread whose fault ends the log stands before it at the place of the fault.
 abbrev pub FaultLaw : Type 0
-FaultLaw = (image : Layout) (log : Log) (walk : Walk) (given : Given) (visits : Visits) (thread : ℕ) (cause : Cause) (place : FaultPlace) → IsWalk image log walk
-    → IsGuided image (told log walk) given visits → log.end ≡ end.Faulted thread cause → walk.fault ≡ Some place
+FaultLaw = (image : Layout) (log : Log) (walk : Walk) (given : Given) (visits : Visits) (thread : ℕ) (cause : Cause) (place : FaultPlace)
+    → IsWalk image log walk → IsGuided image (told log walk) given visits → log.end ≡ end.Faulted thread cause → walk.fault ≡ Some place
     → StopsAt image (at visits (step_of thread (logged log thread).steps)).seen place
 
 -- What a step reads may be read, and what it writes may be written.
@@ -39,11 +39,11 @@ abbrev pub RightsLaw : Type 0
 RightsLaw = (image : Layout) (log : Log) (walk : Walk) (given : Given) (visits : Visits) (p : Pos) → IsWalk image log walk → CallsFit log
     → IsGuided image (told log walk) given visits → IsPlace (told log walk) p → HasRights image (at visits p)
 
--- A step that is no access is quiet, and so is the fault; whatever is given fits it.
+-- A step is an access, or it is quiet, and then whatever is given fits it; the fault is so too.
 abbrev pub QuietLaw : Type 0
 QuietLaw = (image : Layout) (log : Log) (walk : Walk) (given : Given) (visits : Visits) (p : Pos) → IsWalk image log walk
-    → IsGuided image (told log walk) given visits → IsPlace (told log walk) p → (IsAccess log walk p → ⊥)
-    → IsQuiet image (at visits p) × ((other : Given) → FitsAnyway image other p (at visits p))
+    → IsGuided image (told log walk) given visits → IsPlace (told log walk) p
+    → IsAccess log walk p ⊎ (IsQuiet image (at visits p) × ((other : Given) → FitsAnyway image other p (at visits p)))
 
 -- The link of a step is the address of the load-reserved to which it looks back.
 abbrev pub LinkLaw : Type 0

@@ -22,8 +22,8 @@ pub fn accesses_have_rights()
     ensures { RightsLaw }
 {}
 
-/// A step of a guided walk that is no access reads and writes nothing and is no store-conditional, and the fault is so too;
-/// whatever is given fits it.
+/// A step of a guided walk is an access, or it reads and writes nothing and is no store-conditional, and whatever is given
+/// fits it; so it is with the fault too.
 pub fn other_steps_are_quiet()
     ensures { QuietLaw }
 {}
