@@ -6,8 +6,6 @@ use Rattle.rv32_decode.specs.declared.instr.Instr.{Instr}
 use Rattle.rv32_decode.specs.declared.instr.Instr.TheVariants as instr
 use Rattle.odr_log.specs.declared.log.Log.{Log}
 use Rattle.odr_log.specs.declared.log.Pos.{Pos}
-use Rattle.rv_model.specs.declared.walk.Place.{Place}
-use Rattle.rv_model.specs.Accesses.{is_access}
 use Rattle.rv_model.specs.Noted.{writes_in}
 use Rattle.rv_model.specs.RecordedOrder.{Counted}
 use Rattle.rv_model.specs.Run.{logged}
@@ -27,6 +25,7 @@ use Rattle.thread_terms.specs.declared.access.Access.{Access}
 use Rattle.thread_terms.specs.Given.{given_by}
 use Rattle.thread_terms.specs.Steps.{HasVariables, IsOf, guard_shape, is_written, read_size, write_size}
 use Rattle.thread_terms.specs.Variables.{AreVariables}
+pub use Rattle.walk_facts.specs.Steps.{IsAccess, instr_of_step, no_place}
 use Rattle.path_exec.specs.declared.paths.Paths.{Paths}
 use Rattle.path_exec.specs.Links.{LinksTo, looks_back}
 
@@ -64,13 +63,6 @@ IsOfEarlierOr log accesses access width number = IsOfEarlier log accesses access
 
 -- ---- an access of the list
 
-abbrev pub no_place : Place
-no_place = record { pc = 0; instr = instr.Ebreak }
-
--- the instruction of a step
-abbrev pub instr_of_step : Walk → Pos → Instr
-instr_of_step walk p = (slice_index_or (places_of walk p.thread) p.step no_place).instr
-
 abbrev pub is_conditional : Instr → Bool
 is_conditional (instr.StoreConditional rd rs1 rs2 aq rl) = true
 is_conditional other = false
@@ -103,10 +95,6 @@ end_register image told log visits thread number = register (seen_before image t
 -- the term of a register at the end
 abbrev pub end_at : List TermId → (thread number : ℕ) → ℕ
 end_at ends thread number = (slice_index_or ends (32 * thread + number) (record { number = 0 })).number
-
--- a counted step that reads or writes memory
-abbrev pub IsAccess : Log → Walk → Pos → Type 0
-IsAccess log walk p = Counted log p × (is_access (instr_of_step walk p) (noted (told log walk) p) ≡ true)
 
 -- what the registers at the end are
 pub record AreEnds (image : Layout) (log : Log) (walk : Walk) (nodes : List Shape) (paths : Paths) : Type 0 where
