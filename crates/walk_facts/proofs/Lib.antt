@@ -1,10 +1,10 @@
-mod Addresses
-mod Writes
-mod Moves
-mod Rights
-mod Quiet
-mod Links
-mod Givens
-mod Accesses
-mod Runs
-mod Places
+pub mod Addresses
+pub mod Writes
+pub mod Moves
+pub mod Rights
+pub mod Quiet
+pub mod Links
+pub mod Givens
+pub mod Accesses
+pub mod Runs
+pub mod Places
