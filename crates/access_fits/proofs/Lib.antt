@@ -1,0 +1,6 @@
+mod Newest
+mod Front
+mod Bytes
+mod Reserved
+mod Won
+mod Along
