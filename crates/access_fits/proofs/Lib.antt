@@ -3,4 +3,4 @@ mod Front
 mod Bytes
 mod Reserved
 mod Won
-mod Along
+pub mod Along

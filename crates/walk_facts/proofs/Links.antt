@@ -192,7 +192,7 @@ link_before image log walk given v is guided t (suc s) few =
     ∙ link_more (λ (lr : ℕ). access_address image v (step_of t lr)) seen.local i s (back_in walk t s) seen.link (linking i)
     (access_by image log walk given v is guided p counted) before
 
-place_few : (log : Log) (walk : Walk) (p : Pos) → IsPlace (told log walk) p → p.step ≤ length (notes_of walk p.thread)
+pub place_few : (log : Log) (walk : Walk) (p : Pos) → IsPlace (told log walk) p → p.step ≤ length (notes_of walk p.thread)
 place_few log walk p place = elim (place_kind log walk p place) [
   | inl within ↦ omega (arith, within)
   | inr fault ↦ omega (arith, fault.at)
