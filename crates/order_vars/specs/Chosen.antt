@@ -15,6 +15,12 @@ use Rattle.order_clauses.specs.Grid.{recorded_in, lit_in, IsSquare}
 abbrev pub position : List Pos → ℕ → Pos
 position chosen i = get_or chosen i (record { thread = 0; step = 0 })
 
+-- the first place at which a step stands among the chosen ones
+pub record IsFirstPlace (chosen : List Pos) (at : Pos) (place : ℕ) : Type 0 where
+  pub within : place < length chosen
+  pub is : position chosen place ≡ at
+  pub first : (k : ℕ) → k < place → position chosen k ≢ at
+
 -- The literals of chosen steps: Always exactly where the log records so, a variable exactly for open pairs, and clauses
 -- whose assignments are the total orders that keep the recorded order.
 pub record IsOrderVars (log : Log) (chosen : List Pos) (ordered : OrderedTable) (old new : Formula) : Type 0 where

@@ -2,7 +2,7 @@
 #![tactic(auto)]
 
 pub mod law;
-mod matrix;
+pub mod matrix;
 pub mod order_vars;
 #[cfg(test)]
 mod tests;

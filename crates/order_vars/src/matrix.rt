@@ -12,6 +12,10 @@ use odr_log::log::Pos;
 use std::alloc::Global;
 
 /// Row by row, whether one of chosen steps is recorded to stand before another.
+///
+/// # Errors
+///
+/// `Memory` alone.
 pub fn matrix_of(alloc: Global, order: &Order, chosen: &[Pos]) -> Result<List<bool>, Memory>
     ensures square { IfOk result (λ cells. length cells ≡ length chosen.now * length chosen.now) }
     ensures cells { IfOk result (λ cells. (log : Log) → IsOrderOf order.now log → All (Counted log) chosen.now

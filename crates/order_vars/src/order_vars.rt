@@ -1,11 +1,11 @@
 //! Variables for the order of chosen steps.
-ghost use Rattle.std.specs.Prelude.{◌≡◌, ◌≢◌, ◌↔◌, ◌<◌, ◌+◌, length, All, AllPairs, Contains, IfOk, OnErr};
+ghost use Rattle.std.specs.Prelude.{◌≡◌, ◌≢◌, ◌↔◌, ◌<◌, ◌+◌, [], length, All, AllPairs, Contains, IsTrue, IfSome, IfNone, IfOk, OnErr};
 ghost use Rattle.clause_store.specs.Formula.{Formula, Grows};
 ghost use Rattle.happens_before.specs.Table.{IsOrderOf};
 ghost use Rattle.odr_log.specs.declared.log.Log.{Log};
 ghost use Rattle.order_clauses.specs.declared.order_lit.OrderLit.TheVariants as order_lit;
 ghost use Rattle.order_clauses.specs.Grid.{KnowsTable, IsSquare, lit_in};
-ghost use Rattle.order_vars.specs.Chosen.{position, IsOrderVars, PairsAreOpen, IsLitOf};
+ghost use Rattle.order_vars.specs.Chosen.{position, IsFirstPlace, IsOrderVars, PairsAreOpen, IsLitOf};
 ghost use Rattle.rv_model.specs.RecordedOrder.{Counted, RecordedOrder};
 
 use crate::matrix::matrix_of;
@@ -16,6 +16,8 @@ use odr_list::memory::Memory;
 use odr_log::log::Pos;
 use order_clauses::order_lit::OrderLit;
 use order_clauses::ordered::{OrderedTable, ordered_table};
+use order_clauses::pair::Pair;
+use order_clauses::table::Table;
 use std::alloc::Global;
 use std::marker::Model;
 
@@ -42,18 +44,29 @@ fn order_of_chosen(
     ordered_table(alloc, chosen.len(), recorded, clauses)
 }
 
-// The first place at which a chosen step stands.
+// The first place at which a step stands among the chosen.
+fn find_in(chosen: &[Pos], at: Pos) -> Option<usize>
+    ensures found { IfSome result (λ place. IsFirstPlace chosen.now at place) }
+    ensures missing { IfNone result (Contains chosen.now at → ⊥) }
+{
+    for place in 0..chosen.len() {
+        if chosen[place] == at {
+            return Some(place);
+        }
+    }
+    None
+}
+
+// The first place of a chosen step.
 fn place_of(chosen: &[Pos], at: Pos) -> usize
     requires { Contains chosen.now at }
     ensures within { result < length chosen.now }
     ensures place { position chosen.now result ≡ at }
 {
-    for place in 0..chosen.len() {
-        if chosen[place] == at {
-            return place;
-        }
+    match find_in(chosen, at) {
+        Some(place) => place,
+        None => 0,
     }
-    0
 }
 
 /// A literal for each two of chosen steps that says which stands before the other. Contracts see the chosen steps and
@@ -103,6 +116,51 @@ impl OrderVars {
             chosen: List::of(steps),
             ordered,
         })
+    }
+
+    /// The table of the places. Takes no memory.
+    pub fn table(&self) -> &Table
+        ensures table { result.now ≡ self.now.ordered.table }
+        ensures square { IsSquare result.now }
+        ensures count { result.now.count ≡ length self.now.chosen }
+    {
+        &self.ordered.table
+    }
+
+    /// The open pairs of places, in the order of their variables. Takes no memory.
+    pub fn pairs(&self) -> &[Pair]
+        ensures { result.now ≡ self.now.ordered.table.pairs }
+    {
+        self.ordered.table.pairs.as_slice()
+    }
+
+    /// The variable of the first pair. Takes no memory.
+    pub fn first(&self) -> u64
+        ensures { result ≡ self.now.ordered.first }
+    {
+        self.ordered.first
+    }
+
+    /// The number of chosen steps. Takes no memory.
+    pub fn len(&self) -> usize
+        ensures { result ≡ length self.now.chosen }
+    {
+        self.chosen.len()
+    }
+
+    /// Whether no step is chosen. Takes no memory.
+    pub fn is_empty(&self) -> bool
+        ensures { IsTrue result ↔ (self.now.chosen ≡ []) }
+    {
+        self.chosen.is_empty()
+    }
+
+    /// The first place of a step among the chosen, none where it isn't chosen. Takes no memory.
+    pub fn find(&self, at: Pos) -> Option<usize>
+        ensures found { IfSome result (λ place. IsFirstPlace self.now.chosen at place) }
+        ensures missing { IfNone result (Contains self.now.chosen at → ⊥) }
+    {
+        find_in(self.chosen.as_slice(), at)
     }
 
     /// The chosen step at a place. Takes no memory.

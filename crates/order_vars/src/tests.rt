@@ -12,6 +12,8 @@ use std::test::Fail;
 
 const FIRST: Pos = Pos { thread: 0, step: 0 };
 
+const CALL: Pos = Pos { thread: 0, step: 1 };
+
 const EARLY: Pos = Pos { thread: 0, step: 3 };
 
 const LATE: Pos = Pos { thread: 0, step: 5 };
@@ -70,6 +72,18 @@ fn three_literals(vars: &OrderVars) -> (OrderLit, OrderLit, OrderLit)
     )
 }
 
+/// What is told of the variables: the number of steps, whether there are none, the first variable, the pairs and the
+/// places of the table.
+fn told_of(vars: &OrderVars) -> (usize, bool, u64, usize, usize) {
+    (
+        vars.len(),
+        vars.is_empty(),
+        vars.first(),
+        vars.pairs().len(),
+        vars.table().count,
+    )
+}
+
 #[test]
 fn racing_steps_have_variables_and_others_have_none(rt: HostRuntime) -> Result<(), Fail> {
     let alloc = rt.alloc();
@@ -82,6 +96,8 @@ fn racing_steps_have_variables_and_others_have_none(rt: HostRuntime) -> Result<(
     let chosen = [FIRST, EARLY, LATE, CHILD, CHILD_NEXT];
     let vars = OrderVars::new(alloc, &order, &chosen, &mut clauses)?;
     assert_eq!(rt; (clauses.vars(), clauses.len()), (4, 4));
+    assert_eq!(rt; told_of(&vars), (5, false, 0, 4, 5));
+    assert_eq!(rt; (vars.find(LATE), vars.find(CALL)), (Some(2), None));
     let literals = three_literals(&vars);
     assert!(rt;
         matches!(
