@@ -1,25 +1,16 @@
 -- Readings that are gathered byte by byte and reader by reader.
-use Rattle.std.proofs.Common.{◌≡◌, ℕ, ◌<◌, ◌≤◌, ◌+◌, ◌⊎◌, Bool, true, false, List, [], ◌∷◌, ◌++◌, length, Option, Some, None, sym, ◌∙◌, subst, inl, inr, arith}
-use Rattle.std.specs.Prelude.{Contains, nat_le, nat_lt}
-use Rattle.std.proofs.lemmas.Bool.{false≢true, and_parts, and_from, leb-true, le-leb, ltb-true, lt-ltb}
+use Rattle.std.proofs.Common.{◌≡◌, ℕ, ◌<◌, ◌≤◌, ◌+◌, ◌^◌, ◌⊎◌, Bool, true, false, List, [], ◌∷◌, ◌++◌, length, Option, Some, None, sym, ◌∙◌, ap, subst, inl, inr, arith}
+use Rattle.std.specs.Prelude.{Contains}
+use Rattle.std.proofs.lemmas.Bool.{false≢true, and_parts, and_from}
 use Rattle.std.proofs.lemmas.List.Elements.{Contains-push, Contains-push_cases, Contains-append_left}
 use Rattle.order_clauses.proofs.Counts.{split-below}
 use Rattle.race_set.specs.declared.reading.Reading.{Reading}
 use Rattle.race_set.specs.declared.shape.AccessShape.{AccessShape}
 use Rattle.race_set.specs.declared.shape.Span.{Span}
-use Rattle.race_set.specs.Bytes.{span_end, covers, surely_at, reads_byte}
+use Rattle.race_set.specs.Bytes.{byte_of, covers, HasByte, surely_at, reads_byte}
 use Rattle.race_set.specs.Accesses.{shape_at}
 use Rattle.race_set.specs.Readings.{IsReading, IsListed, AddsReadings, IsReadBy, AreReadings}
-
-pub covers_from : (byte : ℕ) (span : Span) → span.first ≤ byte → byte < span_end span → covers byte span ≡ true
-covers_from byte span low high =
-    and_from (nat_le span.first byte) (nat_lt byte (span_end span)) (le-leb span.first byte low) (lt-ltb byte (span_end span) high)
-
-pub covers_low : (byte : ℕ) (span : Span) → covers byte span ≡ true → span.first ≤ byte
-covers_low byte span e = leb-true span.first byte (and_parts (nat_le span.first byte) (nat_lt byte (span_end span)) e).0
-
-pub covers_high : (byte : ℕ) (span : Span) → covers byte span ≡ true → byte < span_end span
-covers_high byte span e = ltb-true byte (span_end span) (and_parts (nat_le span.first byte) (nat_lt byte (span_end span)) e).1
+use Rattle.race_set.proofs.Spans.{covers_exactly}
 
 pub reads_from : (byte : ℕ) (access : AccessShape) (span : Span) → access.reads ≡ true → access.place ≡ Some span → covers byte span ≡ true
     → reads_byte byte access ≡ true
@@ -37,6 +28,10 @@ no_place byte access place e = false≢true (subst (λ (p : Option Span). surely
 
 pub no_reader : (byte : ℕ) (access : AccessShape) → access.reads ≡ false → reads_byte byte access ≡ true → ⊥
 no_reader byte access f e = false≢true (sym f ∙ (and_parts access.reads (surely_at byte access.place) e).0)
+
+-- the first so many bytes of a span
+abbrev pub Numbered : Span → ℕ → ℕ → Type 0
+Numbered span i b = (k : ℕ) × (k < i) × (byte_of span k ≡ b)
 
 module _ (shapes : List AccessShape) (recorded : ℕ → ℕ → Bool) where
   -- nothing is due
@@ -80,35 +75,29 @@ module _ (shapes : List AccessShape) (recorded : ℕ → ℕ → Bool) where
       only s (inl h) = inl h
       only s (inr e) = inr (subst (λ (t : Reading). IsReading shapes recorded t) e is)
 
-  -- the bytes of one reader from the first on
+  pub span_none : (reader : ℕ) (span : Span) (old : List Reading) → AddsReadings shapes recorded (λ x b. (x ≡ reader) × Numbered span 0 b) old old
+  span_none reader span old = adds_nothing (λ x b. (x ≡ reader) × Numbered span 0 b) old (λ x b due. omega (arith, due.1.1))
 
-  pub span_none : (reader first : ℕ) (old : List Reading) → AddsReadings shapes recorded (λ x b. (x ≡ reader) × (first ≤ b) × (b < first)) old old
-  span_none reader first old =
-      adds_nothing (λ x b. (x ≡ reader) × (first ≤ b) × (b < first)) old (λ x b due. never b due.1 due.2)
+  pub span_more : (reader : ℕ) (span : Span) (i : ℕ) (r : Reading) (old mid : List Reading) → r.reader ≡ reader → r.byte ≡ byte_of span i
+      → IsReading shapes recorded r → AddsReadings shapes recorded (λ x b. (x ≡ reader) × Numbered span i b) old mid
+      → AddsReadings shapes recorded (λ x b. (x ≡ reader) × Numbered span (i + 1) b) old (mid ++ r ∷ [])
+  span_more reader span i r old mid here byte is adds =
+      adds_then (λ x b. (x ≡ reader) × Numbered span i b) (λ x b. (x ≡ r.reader) × (b ≡ r.byte)) (λ x b. (x ≡ reader) × Numbered span (i + 1) b)
+      old mid (mid ++ r ∷ []) (λ x b due. go x b due.0 due.1.0 due.1.2 (split-below due.1.0 i (omega (arith, due.1.1)))) adds (adds_one r mid is)
     where
-      never : (b : ℕ) → first ≤ b → b < first → ⊥
-      never b low high = omega (arith, low, high)
+      go : (x b : ℕ) → x ≡ reader → (k : ℕ) → byte_of span k ≡ b → (k < i) ⊎ (k ≡ i) → ((x ≡ reader) × Numbered span i b) ⊎ ((x ≡ r.reader) × (b ≡ r.byte))
+      go x b e k at (inl less) = inl (e, (k, less, at))
+      go x b e k at (inr same) = inr (e ∙ sym here, sym at ∙ ap (λ (n : ℕ). byte_of span n) same ∙ sym byte)
 
-  pub span_more : (reader first k : ℕ) (r : Reading) (old mid : List Reading) → r.reader ≡ reader → r.byte ≡ k → IsReading shapes recorded r
-      → AddsReadings shapes recorded (λ x b. (x ≡ reader) × (first ≤ b) × (b < k)) old mid
-      → AddsReadings shapes recorded (λ x b. (x ≡ reader) × (first ≤ b) × (b < k + 1)) old (mid ++ r ∷ [])
-  span_more reader first k r old mid here byte is adds =
-      adds_then (λ x b. (x ≡ reader) × (first ≤ b) × (b < k)) (λ x b. (x ≡ r.reader) × (b ≡ r.byte)) (λ x b. (x ≡ reader) × (first ≤ b) × (b < k + 1))
-      old mid (mid ++ r ∷ []) (λ x b due. go x b due.0 due.1 (split-below b k (omega (arith, due.2)))) adds (adds_one r mid is)
-    where
-      go : (x b : ℕ) → x ≡ reader → first ≤ b → (b < k) ⊎ (b ≡ k) → ((x ≡ reader) × (first ≤ b) × (b < k)) ⊎ ((x ≡ r.reader) × (b ≡ r.byte))
-      go x b e low (inl less) = inl (e, low, less)
-      go x b e low (inr same) = inr (e ∙ sym here, same ∙ sym byte)
-
-  pub span_all : (reader k : ℕ) (span : Span) (old new : List Reading) → span_end span ≤ k
-      → AddsReadings shapes recorded (λ x b. (x ≡ reader) × (span.first ≤ b) × (b < k)) old new
+  pub span_all : (reader i : ℕ) (span : Span) (old new : List Reading) → span.first < 2 ^ 32 → span.len < 2 ^ 32 → span.len ≤ i
+      → AddsReadings shapes recorded (λ x b. (x ≡ reader) × Numbered span i b) old new
       → AddsReadings shapes recorded (λ x b. (x ≡ reader) × (covers b span ≡ true)) old new
-  span_all reader k span old new done adds =
-      adds_reworded (λ x b. (x ≡ reader) × (span.first ≤ b) × (b < k)) (λ x b. (x ≡ reader) × (covers b span ≡ true)) old new
-      (λ x b due. (due.0, covers_low b span due.1, le_below b (span_end span) k (covers_high b span due.1) done)) adds
+  span_all reader i span old new first_in len_in done adds =
+      adds_reworded (λ x b. (x ≡ reader) × Numbered span i b) (λ x b. (x ≡ reader) × (covers b span ≡ true)) old new
+      (λ x b due. numbered x b due.0 ((covers_exactly span b first_in len_in).0 due.1)) adds
     where
-      le_below : (a b c : ℕ) → a < b → b ≤ c → a < c
-      le_below a b c h k = omega (arith, h, k)
+      numbered : (x b : ℕ) → x ≡ reader → HasByte span b → (x ≡ reader) × Numbered span i b
+      numbered x b e h = (e, (h.0, omega (arith, h.1, done), h.2))
 
   -- one reader, by what is known of it
   pub reader_placed : (reader : ℕ) (span : Span) (old new : List Reading) → (shape_at shapes reader).place ≡ Some span

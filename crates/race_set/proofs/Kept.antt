@@ -10,7 +10,7 @@ use Rattle.order_clauses.proofs.Counts.{split-below}
 use Rattle.race_set.specs.declared.outcome.Outcome.{Outcome}
 use Rattle.race_set.specs.declared.shape.AccessShape.{AccessShape}
 use Rattle.race_set.specs.declared.shape.Span.{Span}
-use Rattle.race_set.specs.Accesses.{AreDifferent, shape_at}
+use Rattle.race_set.specs.Accesses.{AreDifferent, IsListedBefore, shape_at}
 use Rattle.race_set.specs.Outcomes.{IsOpenOutcome, AreOutcomes}
 use Rattle.race_set.specs.Needs.{AreNeeded}
 use Rattle.race_set.proofs.Numbers.{no_shape, same_number}
@@ -73,7 +73,12 @@ outcomes_all shapes recorded k outcomes done are = record { only = are.only; eac
 
 pub needed_none : (shapes : List AccessShape) (test : ℕ → Bool) → AreNeeded shapes test 0 []
 needed_none shapes test =
-    record { only = λ p h. absurd (omega (arith, h.1)); each = λ i h. absurd (omega (arith, h)); once = λ differ i j d h k. absurd (omega (arith, k)) }
+    record {
+      only = λ p h. absurd (omega (arith, h.1));
+      each = λ i h. absurd (omega (arith, h));
+      once = λ differ i j d h k. absurd (omega (arith, k));
+      order = λ i j d h k. absurd (omega (arith, k));
+    }
 
 module _ (shapes : List AccessShape) (test : ℕ → Bool) (k : ℕ) (within : k < length shapes) (old : List Pos) (are : AreNeeded shapes test k old) where
   needed_left : test k ≡ false → AreNeeded shapes test (k + 1) old
@@ -82,6 +87,7 @@ module _ (shapes : List AccessShape) (test : ℕ → Bool) (k : ℕ) (within : k
         only = λ p h. let o = are.only p h in (o.0, omega (arith, o.1), o.2, o.3);
         each = λ i below e. go i e (split-below i k (omega (arith, below)));
         once = are.once;
+        order = are.order;
       }
     where
       go : (i : ℕ) → test i ≡ true → (i < k) ⊎ (i ≡ k) → Contains old (shape_at shapes i).pos
@@ -94,8 +100,12 @@ module _ (shapes : List AccessShape) (test : ℕ → Bool) (k : ℕ) (within : k
         only = λ p h. only p (Contains-push_cases old (shape_at shapes k).pos p h);
         each = λ i below e. go i e (split-below i k (omega (arith, below)));
         once = λ differ. all_pairs_push (λ (p q : Pos). p ≢ q) old (shape_at shapes k).pos (are.once differ) (λ j d j_in same. apart differ j d j_in same);
+        order = all_pairs_push (IsListedBefore shapes) old (shape_at shapes k).pos are.order (λ j d j_in. earlier (get_or old j d) (are.only (get_or old j d) (Contains-get_or old j d j_in)));
       }
     where
+      earlier : (p : Pos) → (i : ℕ) × (i < k) × (test i ≡ true) × ((shape_at shapes i).pos ≡ p) → IsListedBefore shapes p (shape_at shapes k).pos
+      earlier p o = record { first = o.0; second = k; less = o.1; within = within; first_is = o.3; second_is = refl }
+
       only : (p : Pos) → Contains old p ⊎ ((shape_at shapes k).pos ≡ p) → (i : ℕ) × (i < k + 1) × (test i ≡ true) × ((shape_at shapes i).pos ≡ p)
       only p (inl h) = let o = are.only p h in (o.0, omega (arith, o.1), o.2, o.3)
       only p (inr same) = (k, omega arith, t, same)
@@ -126,4 +136,5 @@ needed_all shapes test k positions within done are =
       only = λ p h. let o = are.only p h in (o.0, omega (arith, o.1, within), o.2, o.3);
       each = λ i below e. are.each i (omega (arith, below, done)) e;
       once = are.once;
+      order = are.order;
     }

@@ -1,5 +1,7 @@
-pub mod Cells
+pub mod Spans
+pub mod Positions
 pub mod Gathered
+pub mod InOrder
 pub mod Kept
 pub mod NewestWrite
 pub mod Numbers
@@ -10,5 +12,6 @@ pub mod ExactSources
 pub mod Merge
 pub mod Members
 pub mod SeenBytes
+pub mod SeenOrder
 pub mod NeededAccesses
 pub mod RaceSets

@@ -1,9 +1,10 @@
 -- Members of lists that are made by tests and by parts of their items.
-use Rattle.std.proofs.Common.{◌≡◌, zero, suc, ◌⊎◌, Bool, true, List, [], ◌∷◌, Option, Some, None, refl, sym, ◌∙◌, ap, subst, inl, inr, arith}
-use Rattle.std.specs.Prelude.{Contains, Any}
+use Rattle.std.proofs.Common.{◌≡◌, zero, suc, ◌⊎◌, Bool, true, List, [], ◌∷◌, get_or, Option, Some, None, refl, sym, ◌∙◌, ap, subst, inl, inr, arith}
+use Rattle.std.specs.Prelude.{AllPairs, Contains, Any}
 use Rattle.std.specs.List.{cons_option, filter_map, list_any}
 use Rattle.std.proofs.lemmas.Option.{same_Some, none-some}
-use Rattle.std.proofs.lemmas.List.Elements.{Contains-append_left, Contains-append_right, Contains-append_cases}
+use Rattle.std.proofs.lemmas.List.Elements.{Contains-get_or, Contains-append_left, Contains-append_right, Contains-append_cases}
+use Rattle.std.proofs.lemmas.List.Kept.{AllPairs-cons}
 use Rattle.std.proofs.lemmas.List.Folds.{Any-from_list_any, list_any-from_Any}
 
 -- the first of a list, or one of the rest
@@ -79,3 +80,23 @@ from_any {X} test xs e =
 
 pub to_any : {X : Type 0} (test : X → Bool) (xs : List X) (x : X) → Contains xs x → test x ≡ true → list_any test xs ≡ true
 to_any test xs x c e = list_any-from_Any test xs (c.0, x, c.1, c.2, e)
+
+-- pairs of items whose parts are there
+
+pub pairs_filter_map : {X Y : Type 0} (R : X → X → Type 0) (S : Y → Y → Type 0) (h : X → Option Y)
+    → ((q r : X) (s t : Y) → R q r → h q ≡ Some s → h r ≡ Some t → S s t) → (xs : List X) → AllPairs R xs → AllPairs S (filter_map h xs)
+pairs_filter_map R S h leads [] pairs = λ i j d less j_in. absurd (omega (arith, j_in))
+pairs_filter_map {X} {Y} R S h leads (x ∷ xs) pairs =
+    go (h x) refl (pairs_filter_map R S h leads xs (λ i j d less j_in. pairs (suc i) (suc j) d (omega (arith, less)) (omega (arith, j_in))))
+  where
+    later : (r : X) → Contains xs r → R x r
+    later r c = subst (λ (t : X). R x t) c.2 (pairs 0 (suc c.0) r (omega arith) (omega (arith, c.1)))
+
+    go : (o : Option Y) → h x ≡ o → AllPairs S (filter_map h xs) → AllPairs S (cons_option o (filter_map h xs))
+    go None e rest = rest
+    go (Some s) e rest =
+        AllPairs-cons S s (filter_map h xs)
+        (λ i d i_in.
+        let part = from_filter_map h xs (get_or (filter_map h xs) i d) (Contains-get_or (filter_map h xs) i d i_in) in
+        leads x part.0 s (get_or (filter_map h xs) i d) (later part.0 part.1) e part.2)
+        rest

@@ -1,15 +1,23 @@
 -- Which bytes of memory accesses read and may write.
-use Rattle.std.specs.Prelude.{ℕ, ◌+◌, ◌*◌, ◌/◌, Bool, true, false, ◌&&◌, ◌||◌, min, nat_le, nat_lt, Option, Some, None, is_none}
+use Rattle.std.specs.Prelude.{◌≡◌, ℕ, ◌<◌, ◌+◌, ◌-◌, ◌*◌, ◌/◌, ◌%◌, ◌^◌, Bool, true, false, ◌&&◌, ◌||◌, nat_lt, Option, Some, None, is_none}
 use Rattle.race_set.specs.declared.shape.Span.{Span}
 use Rattle.race_set.specs.declared.shape.AccessShape.{AccessShape}
 
--- the first address after a span, at most the end of memory
-abbrev pub span_end : Span → ℕ
-span_end span = min (span.first + span.len) 4294967296
+-- the byte with a number in a span, modulo 2^32
+abbrev pub byte_of : Span → ℕ → ℕ
+byte_of span i = (span.first + i) % 2 ^ 32
+
+-- how far a byte stands after the first one of a span, modulo 2^32
+abbrev pub number_in : Span → ℕ → ℕ
+number_in span byte = (byte + (2 ^ 32 - span.first)) % 2 ^ 32
 
 -- a span has a byte
 abbrev pub covers : ℕ → Span → Bool
-covers byte span = nat_le span.first byte && nat_lt byte (span_end span)
+covers byte span = nat_lt byte (2 ^ 32) && nat_lt (number_in span byte) span.len
+
+-- a byte is one of those with a number in a span
+abbrev pub HasByte : Span → ℕ → Type 0
+HasByte span byte = (i : ℕ) × (i < span.len) × (byte_of span i ≡ byte)
 
 -- a byte is at a place, where that is known
 abbrev pub surely_at : ℕ → Option Span → Bool
@@ -33,7 +41,7 @@ is_unplaced_reader access = access.reads && is_none access.place
 abbrev pub may_write : ℕ → AccessShape → Bool
 may_write byte access = access.writes && may_be_at byte access.place
 
--- an access writes a byte in every run: its place is known, and it isn't a store-conditional
+-- an access writes a byte in every run: its place is known, and it has no link
 abbrev pub surely_writes : ℕ → AccessShape → Bool
 surely_writes byte access = access.writes && (is_none access.link && surely_at byte access.place)
 

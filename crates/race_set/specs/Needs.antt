@@ -6,15 +6,15 @@ use Rattle.race_set.specs.declared.outcome.Outcome.{Outcome}
 use Rattle.race_set.specs.declared.reading.Reading.{Reading}
 use Rattle.race_set.specs.declared.shape.AccessShape.{AccessShape}
 use Rattle.race_set.specs.Bytes.{is_unplaced_reader}
-use Rattle.race_set.specs.Accesses.{AreDifferent, shape_at}
+use Rattle.race_set.specs.Accesses.{AreDifferent, IsListedBefore, shape_at}
 use Rattle.race_set.specs.Readings.{is_raced_by}
 use Rattle.race_set.specs.Outcomes.{has_part}
 
--- a reading whose source isn't told is of a byte that the access reads or may write
+-- the access is the reader of a byte whose source isn't told, or may write it
 abbrev pub is_raced : List Reading → ℕ → AccessShape → Bool
 is_raced readings number access = list_any (λ r. is_raced_by r number access) readings
 
--- the access reads at an unknown address, or writes where another one does
+-- the access reads at an unknown address, or writes while some access reads so
 abbrev pub is_searched : List AccessShape → AccessShape → Bool
 is_searched shapes access = is_unplaced_reader access || (access.writes && list_any is_unplaced_reader shapes)
 
@@ -32,3 +32,4 @@ pub record AreNeeded (shapes : List AccessShape) (test : ℕ → Bool) (upto : �
   pub only : (p : Pos) → Contains positions p → (i : ℕ) × (i < upto) × (test i ≡ true) × ((shape_at shapes i).pos ≡ p)
   pub each : (i : ℕ) → i < upto → test i ≡ true → Contains positions (shape_at shapes i).pos
   pub once : AreDifferent shapes → AllPairs (λ p q. p ≢ q) positions
+  pub order : AllPairs (IsListedBefore shapes) positions

@@ -27,7 +27,7 @@ pub record IsMatrixOf (m : Matrix) (shapes : List AccessShape) : Type 0 where
 abbrev pub is_after : (ℕ → ℕ → Bool) → ℕ → ℕ → Bool
 is_after recorded reader other = nat_eq other reader || recorded reader other
 
--- another access is the writer or stands before it, or isn't before the reader
+-- another access is the writer or stands before it, or is the reader or stands after it
 abbrev pub is_passed : (ℕ → ℕ → Bool) → ℕ → ℕ → ℕ → Bool
 is_passed recorded reader writer other = is_after recorded other writer || is_after recorded reader other
 
@@ -41,12 +41,12 @@ abbrev pub later : List AccessShape → (ℕ → ℕ → Bool) → ℕ → ℕ �
 later shapes recorded byte reader writer other =
     if may_write byte (shape_at shapes other) && is_later recorded reader writer other then Some other else writer
 
--- each other access that may write the byte stands after the reader
+-- each access that may write the byte is the reader or stands after it
 abbrev pub IsInitial : List AccessShape → (ℕ → ℕ → Bool) → ℕ → ℕ → Type 0
 IsInitial shapes recorded byte reader =
     (other : ℕ) → other < length shapes → may_write byte (shape_at shapes other) ≡ true → is_after recorded reader other ≡ true
 
--- each other access that may write the byte stands before the writer or after the reader
+-- each access that may write the byte is the writer or stands before it, or is the reader or stands after it
 abbrev pub ArePassed : List AccessShape → (ℕ → ℕ → Bool) → ℕ → ℕ → ℕ → Type 0
 ArePassed shapes recorded byte reader writer =
     (other : ℕ) → other < length shapes → may_write byte (shape_at shapes other) ≡ true → is_passed recorded reader writer other ≡ true
@@ -57,7 +57,8 @@ pub record IsCandidate (shapes : List AccessShape) (recorded : ℕ → ℕ → B
   pub writes : may_write byte (shape_at shapes writer) ≡ true
   pub older : recorded writer reader ≡ true
 
--- An access surely writes the byte and stands before the reader, and no other that may write it stands between them.
+-- An access surely writes the byte and stands before the reader, and each that may write it is one of the two, or stands
+-- before the writer or after the reader.
 pub record IsWrite (shapes : List AccessShape) (recorded : ℕ → ℕ → Bool) (byte reader writer : ℕ) : Type 0 where
   pub within : writer < length shapes
   pub writes : surely_writes byte (shape_at shapes writer) ≡ true

@@ -1,4 +1,4 @@
--- The read bytes with one source in every run, and the accesses on whose order anything else depends.
+-- The read bytes with one source in every run, and the accesses that need an order.
 use Rattle.std.specs.Prelude.{◌≡◌, ◌⊎◌, ℕ, true, List, Option, Some, Contains}
 use Rattle.odr_log.specs.declared.log.Log.{Log}
 use Rattle.odr_log.specs.declared.log.Pos.{Pos}
@@ -16,7 +16,7 @@ pub record IsFixedReading (log : Log) (shapes : List AccessShape) (s : Seen) : T
   pub reads : reads_byte s.byte reader ≡ true
   pub fixed : IsFixed log shapes s.byte s.reader s.from
 
--- an access reads or may write a byte that a reader doesn't see from the same write in every run
+-- a reader doesn't see a byte from one source in every run, and this access is the reader or may write the byte
 pub record IsRaced (log : Log) (shapes : List AccessShape) (access : AccessShape) : Type 0 where
   pub byte : ℕ
   pub reader : AccessShape
@@ -25,7 +25,7 @@ pub record IsRaced (log : Log) (shapes : List AccessShape) (access : AccessShape
   pub unfixed : (writer : Option Pos) → IsFixed log shapes byte reader.pos writer → ⊥
   pub part : (access ≡ reader) ⊎ (may_write byte access ≡ true)
 
--- an access reads at an unknown address, or writes and another one reads there
+-- some access reads at an unknown address, and this one is that access, or writes
 pub record IsSearched (shapes : List AccessShape) (access : AccessShape) : Type 0 where
   pub reader : AccessShape
   pub listed : Contains shapes reader
@@ -50,7 +50,7 @@ pub record HasOpenOutcome (log : Log) (shapes : List AccessShape) (access : Acce
   pub pair : IsOpenPair log shapes conditional reserved
   pub part : (access ≡ conditional) ⊎ ((access ≡ reserved) ⊎ (may_write_word reserved.place access ≡ true))
 
--- what a run reads, or an outcome, depends on where the access stands
+-- the access has part in a byte without one source, in a read at an unknown address, or in an open outcome
 abbrev pub NeedsOrder : Log → List AccessShape → AccessShape → Type 0
 NeedsOrder log shapes access = IsRaced log shapes access ⊎ (IsSearched shapes access ⊎ HasOpenOutcome log shapes access)
 

@@ -1,12 +1,13 @@
 -- The bytes that accesses read, with their sources.
-use Rattle.std.specs.Prelude.{◌≡◌, ◌⊎◌, ℕ, ◌<◌, Bool, true, ◌&&◌, ◌||◌, nat_eq, List, length, Option, Some, None, is_none, Contains}
+use Rattle.std.specs.Prelude.{◌≡◌, ◌≢◌, ◌⊎◌, ℕ, ◌<◌, Bool, true, ◌&&◌, ◌||◌, nat_eq, List, length, Option, Some, None, is_none, All, AllPairs, Contains}
 use Rattle.order_clauses.specs.Orders.{IsStrict}
 use Rattle.race_set.specs.declared.reading.Reading.{Reading}
 use Rattle.race_set.specs.declared.reading.Seen.{Seen}
 use Rattle.race_set.specs.declared.shape.AccessShape.{AccessShape}
 use Rattle.race_set.specs.declared.source.Source.{Source}
 use Rattle.race_set.specs.declared.source.Source.TheVariants as source
-use Rattle.race_set.specs.Bytes.{may_write, reads_byte}
+use Rattle.race_set.specs.declared.shape.Span.{Span}
+use Rattle.race_set.specs.Bytes.{byte_of, may_write, reads_byte}
 use Rattle.race_set.specs.Accesses.{shape_at}
 use Rattle.race_set.specs.Places.{IsSource}
 
@@ -18,7 +19,7 @@ seen_from shapes reader byte (source.Write writer) =
     Some (record { reader = (shape_at shapes reader).pos; byte = byte; from = Some (shape_at shapes writer).pos })
 seen_from shapes reader byte source.Open = None
 
--- the source isn't told, and an access reads the byte or may write it
+-- the source isn't told, and an access is the reader or may write the byte
 abbrev pub is_raced_by : Reading → ℕ → AccessShape → Bool
 is_raced_by r number access = is_none r.seen && (nat_eq r.reader number || may_write r.byte access)
 
@@ -48,3 +49,48 @@ IsReadBy shapes one reader byte = (reader ≡ one) × (reads_byte byte (shape_at
 pub record AreReadings (shapes : List AccessShape) (recorded : ℕ → ℕ → Bool) (readings : List Reading) : Type 0 where
   pub only : (r : Reading) → Contains readings r → IsReading shapes recorded r
   pub each : (reader byte : ℕ) → reader < length shapes → reads_byte byte (shape_at shapes reader) ≡ true → IsListed readings reader byte
+
+-- a byte is the one with a number in the place of an access with a number
+pub record IsByteAt (shapes : List AccessShape) (reader byte number : ℕ) : Type 0 where
+  pub span : Span
+  pub place : (shape_at shapes reader).place ≡ Some span
+  pub within : number < span.len
+  pub is : byte_of span number ≡ byte
+
+-- one access and number stand before another: the access is earlier, or it is the same and the number is smaller
+abbrev pub Precedes : ℕ → ℕ → ℕ → ℕ → Type 0
+Precedes reader number other next = (reader < other) ⊎ ((reader ≡ other) × (number < next))
+
+-- one reading is of a byte before that of another, and one access reads different bytes
+pub record IsReadBefore (shapes : List AccessShape) (r s : Reading) : Type 0 where
+  pub number : ℕ
+  pub next : ℕ
+  pub first : IsByteAt shapes r.reader r.byte number
+  pub second : IsByteAt shapes s.reader s.byte next
+  pub before : Precedes r.reader number s.reader next
+  pub differ : r.reader ≡ s.reader → r.byte ≢ s.byte
+
+-- a reading is of a byte before that with a number in the place of an access
+pub record IsBefore (shapes : List AccessShape) (reader next : ℕ) (r : Reading) : Type 0 where
+  pub number : ℕ
+  pub at : IsByteAt shapes r.reader r.byte number
+  pub before : Precedes r.reader number reader next
+
+-- readings stand in their order, all of bytes before that with a number in the place of an access
+pub record AreBefore (shapes : List AccessShape) (reader next : ℕ) (readings : List Reading) : Type 0 where
+  pub order : AllPairs (IsReadBefore shapes) readings
+  pub below : All (IsBefore shapes reader next) readings
+
+-- one seen byte is read before another: by an earlier access, or by the same one at a smaller number of its place
+pub record IsSeenBefore (shapes : List AccessShape) (s t : Seen) : Type 0 where
+  pub reader : ℕ
+  pub other : ℕ
+  pub reader_in : reader < length shapes
+  pub other_in : other < length shapes
+  pub reader_is : (shape_at shapes reader).pos ≡ s.reader
+  pub other_is : (shape_at shapes other).pos ≡ t.reader
+  pub number : ℕ
+  pub next : ℕ
+  pub first : IsByteAt shapes reader s.byte number
+  pub second : IsByteAt shapes other t.byte next
+  pub before : Precedes reader number other next

@@ -1,5 +1,5 @@
 //! Which of the accesses is recorded to stand before which.
-ghost use Rattle.std.specs.Prelude.{◌≡◌, ◌↔◌, ℕ, ◌<◌, true, length, IfOk};
+ghost use Rattle.std.specs.Prelude.{◌≡◌, ◌↔◌, ℕ, ◌<◌, true, length, map, IfOk};
 ghost use Rattle.happens_before.specs.Table.{IsOrderOf};
 ghost use Rattle.odr_log.specs.declared.log.Log.{Log};
 ghost use Rattle.race_set.specs.Accesses.{AreCounted, shape_at};
@@ -10,7 +10,9 @@ use crate::shape::AccessShape;
 use happens_before::order::Order;
 use odr_list::list::List;
 use odr_list::memory::Memory;
-use std::alloc::Global;
+use odr_log::log::Pos;
+use order_vars::matrix::matrix_of;
+use std::alloc::{AllocError, Global};
 
 /// For each two of so many accesses, by their numbers, whether the first is recorded to stand before the second.
 #[derive(Debug, Drop)]
@@ -18,6 +20,13 @@ pub struct Matrix {
     pub count: usize,
     /// Row by row.
     pub cells: List<bool>,
+}
+
+// The steps of accesses.
+fn positions_of(alloc: Global, shapes: &[AccessShape]) -> Result<Vec<Pos>, AllocError>
+    ensures { IfOk result (λ positions. positions.items ≡ map (λ x. x.pos) shapes.now) }
+{
+    shapes.iter().map(|shape| shape.pos).collect(alloc)
 }
 
 impl Matrix {
@@ -33,15 +42,12 @@ impl Matrix {
             → (i j : ℕ) → i < length shapes.now → j < length shapes.now
             → (cell m i j ≡ true) ↔ RecordedOrder log (shape_at shapes.now i).pos (shape_at shapes.now j).pos) }
     {
-        let count = shapes.len();
-        let Some(size) = count.checked_mul(count) else {
-            return Err(Memory);
-        };
-        let mut cells = List::new(alloc);
-        for k in 0..size {
-            cells.push(order.before(shapes[k / count].pos, shapes[k % count].pos))?;
-        }
-        Ok(Matrix { count, cells })
+        let positions = positions_of(alloc, shapes)?;
+        let cells = matrix_of(alloc, order, positions.as_slice())?;
+        Ok(Matrix {
+            count: shapes.len(),
+            cells,
+        })
     }
 
     /// Whether one access is recorded to stand before another. Takes no memory.

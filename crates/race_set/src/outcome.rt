@@ -22,8 +22,7 @@ pub struct Outcome {
 }
 
 impl Outcome {
-    /// Whether the outcome can depend on where an access stands: it is one of the two, or may write a byte of the
-    /// reserved word.
+    /// Whether an access is one of the two, or may write a byte of the reserved word.
     pub fn has_part(&self, number: usize, shape: &AccessShape) -> bool
         ensures { result ≡ has_part self.now number shape.now }
     {

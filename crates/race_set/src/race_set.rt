@@ -6,8 +6,9 @@ ghost use Rattle.odr_log.specs.declared.log.Log.{Log};
 ghost use Rattle.odr_log.specs.declared.log.Pos.{Pos};
 ghost use Rattle.race_set.specs.declared.reading.Seen.{Seen};
 ghost use Rattle.race_set.specs.Bytes.{is_unplaced_reader};
-ghost use Rattle.race_set.specs.Accesses.{AreCounted, AreDifferent, shape_at};
+ghost use Rattle.race_set.specs.Accesses.{AreCounted, AreDifferent, IsListedBefore, shape_at};
 ghost use Rattle.race_set.specs.Needs.{is_raced, is_searched, has_outcome, is_needed, AreNeeded};
+ghost use Rattle.race_set.specs.Readings.{IsSeenBefore};
 ghost use Rattle.race_set.specs.Races.{IsFixedReading, NeedsOrderAt};
 
 use crate::matrix::Matrix;
@@ -38,7 +39,7 @@ fn seen_of(alloc: Global, readings: &[Reading]) -> Result<Vec<Seen>, AllocError>
         .collect(alloc)
 }
 
-// Whether a read byte can depend on where an access stands.
+// Whether an access is the reader of a byte whose source isn't told, or may write it.
 fn is_raced(readings: &[Reading], number: usize, shape: &AccessShape) -> bool
     ensures { result ≡ is_raced readings.now number shape.now }
 {
@@ -52,21 +53,21 @@ fn has_unplaced_reader(shapes: &[AccessShape]) -> bool
     shapes.iter().any(|shape| shape.is_unplaced_reader())
 }
 
-// Whether what an access reads at an unknown address can depend on where an access stands.
+// Whether an access reads at an unknown address, or writes while some access reads so.
 fn is_searched(shapes: &[AccessShape], shape: &AccessShape) -> bool
     ensures { result ≡ is_searched shapes.now shape.now }
 {
     shape.is_unplaced_reader() || shape.writes && has_unplaced_reader(shapes)
 }
 
-// Whether an outcome can depend on where an access stands.
+// Whether an access has part in an open outcome.
 fn has_outcome(outcomes: &[Outcome], number: usize, shape: &AccessShape) -> bool
     ensures { result ≡ has_outcome outcomes.now number shape.now }
 {
     outcomes.iter().any(|o| o.has_part(number, shape))
 }
 
-// Whether what a run shows can depend on where an access stands.
+// Whether an access has part in a byte whose source isn't told, in a read at an unknown address or in an open outcome.
 fn is_needed(
     shapes: &[AccessShape],
     readings: &[Reading],
@@ -135,9 +136,11 @@ fn set_of(
 
 /// The read bytes that come from the same write, or from none, in every total order of the accesses that agrees with
 /// the recorded one, whichever linked store-conditionals succeed and at whichever addresses the accesses without a
-/// place are; and the accesses on whose order anything else that is read, or an outcome, can depend.
+/// place are. And the accesses that read another byte or may write it; that read at an unknown address, or write while
+/// one does; that are a store-conditional whose outcome is open or its load-reserved, or may write a byte of its word.
 ///
-/// The accesses are counted steps of the log of the order, and no two are the same step.
+/// The accesses are counted steps of the log of the order, and no two are the same step. Both lists stand in the order
+/// of the accesses, and the bytes of one access in the order of their numbers in its place.
 ///
 /// # Errors
 ///
@@ -152,6 +155,10 @@ pub fn open_accesses(
     ensures ordered { IfOk result (λ set. (log : Log) → IsOrderOf order.now log → AreCounted log shapes.now → AreDifferent shapes.now
         → (p : Pos) → Contains set.ordered p ↔ NeedsOrderAt log shapes.now p) }
     ensures once { IfOk result (λ set. AreDifferent shapes.now → AllPairs (λ p q. p ≢ q) set.ordered) }
+    ensures ordered_order { IfOk result (λ set. AllPairs (IsListedBefore shapes.now) set.ordered) }
+    ensures seen_once { IfOk result (λ set. AreDifferent shapes.now
+        → AllPairs (λ s t. s.reader ≡ t.reader → s.byte ≢ t.byte) set.seen) }
+    ensures seen_order { IfOk result (λ set. AllPairs (IsSeenBefore shapes.now) set.seen) }
 {
     let recorded = Matrix::of(alloc, order, shapes)?;
     let readings = readings_of(alloc, &recorded, shapes)?;

@@ -1,9 +1,9 @@
 //! All bytes that accesses with a known place read, with their sources.
-ghost use Rattle.std.specs.Prelude.{◌≡◌, ℕ, ◌<◌, true, length, IfOk, OnOk};
+ghost use Rattle.std.specs.Prelude.{◌≡◌, ◌<◌, ◌+◌, true, length, AllPairs, IfOk, OnOk};
 ghost use Rattle.race_set.specs.Bytes.{covers, reads_byte};
 ghost use Rattle.race_set.specs.Accesses.{shape_at};
 ghost use Rattle.race_set.specs.Places.{recorded_in, IsMatrixOf, IsWithin};
-ghost use Rattle.race_set.specs.Readings.{seen_from, is_raced_by, IsReading, AddsReadings, IsReadBy, AreReadings};
+ghost use Rattle.race_set.specs.Readings.{seen_from, is_raced_by, IsReading, AddsReadings, IsReadBy, AreReadings, IsReadBefore, AreBefore};
 
 use crate::matrix::Matrix;
 use crate::shape::{AccessShape, Span};
@@ -30,8 +30,7 @@ pub struct Reading {
 }
 
 impl Reading {
-    /// Whether the byte can depend on where an access stands: its source isn't told, and the access reads it or may
-    /// write it.
+    /// Whether the source isn't told, and the access with a number is the reader or may write the byte.
     pub fn is_raced_by(&self, number: usize, shape: &AccessShape) -> bool
         ensures { result ≡ is_raced_by self.now number shape.now }
     {
@@ -75,7 +74,7 @@ fn reading_of(recorded: &Matrix, shapes: &[AccessShape], reader: usize, byte: u3
     Reading { reader, byte, seen }
 }
 
-// Adds the bytes of a reader's place.
+// Adds the bytes of a reader's place, in the order of their numbers there.
 fn add_span(
     recorded: &Matrix,
     shapes: &[AccessShape],
@@ -85,12 +84,14 @@ fn add_span(
 ) -> Result<(), Memory>
     requires matrix { IsMatrixOf recorded.now shapes.now }
     requires reader_in { reader < length shapes.now }
-    requires reads { (byte : ℕ) → covers byte span ≡ true → reads_byte byte (shape_at shapes.now reader) ≡ true }
-    ensures { OnOk result (AddsReadings shapes.now (recorded_in recorded.now)
+    requires reads { (shape_at shapes.now reader).reads ≡ true }
+    requires place { (shape_at shapes.now reader).place ≡ Some span }
+    ensures readings { OnOk result (AddsReadings shapes.now (recorded_in recorded.now)
         (λ x byte. (x ≡ reader) × (covers byte span ≡ true)) readings.old readings.new) }
+    ensures order { OnOk result (AreBefore shapes.now reader 0 readings.old → AreBefore shapes.now reader span.len readings.new) }
 {
-    for byte in u64::from(span.first)..span.end() {
-        readings.push(reading_of(recorded, shapes, reader, byte as u32))?;
+    for i in 0..span.len {
+        readings.push(reading_of(recorded, shapes, reader, span.byte(i)))?;
     }
     Ok(())
 }
@@ -104,7 +105,8 @@ fn add_reader(
 ) -> Result<(), Memory>
     requires matrix { IsMatrixOf recorded.now shapes.now }
     requires reader_in { reader < length shapes.now }
-    ensures { OnOk result (AddsReadings shapes.now (recorded_in recorded.now) (IsReadBy shapes.now reader) readings.old readings.new) }
+    ensures readings { OnOk result (AddsReadings shapes.now (recorded_in recorded.now) (IsReadBy shapes.now reader) readings.old readings.new) }
+    ensures order { OnOk result (AreBefore shapes.now reader 0 readings.old → AreBefore shapes.now (reader + 1) 0 readings.new) }
 {
     if !shapes[reader].reads {
         return Ok(());
@@ -115,7 +117,8 @@ fn add_reader(
     }
 }
 
-/// All bytes that accesses with a known place read, with their sources.
+/// All bytes that accesses with a known place read, with their sources, in the order of the accesses and of the numbers
+/// of bytes in their places.
 ///
 /// # Errors
 ///
@@ -126,7 +129,8 @@ pub fn readings_of(
     shapes: &[AccessShape],
 ) -> Result<List<Reading>, Memory>
     requires matrix { IsMatrixOf recorded.now shapes.now }
-    ensures { IfOk result (λ readings. AreReadings shapes.now (recorded_in recorded.now) readings) }
+    ensures readings { IfOk result (λ readings. AreReadings shapes.now (recorded_in recorded.now) readings) }
+    ensures order { IfOk result (λ readings. AllPairs (IsReadBefore shapes.now) readings) }
 {
     let mut readings = List::new(alloc);
     for reader in 0..shapes.len() {

@@ -1,10 +1,10 @@
 //! What is known of an access before its addresses and outcomes are decided.
-ghost use Rattle.std.specs.Prelude.{◌≡◌, ◌+◌, ◌<◌, ◌≤◌, ◌^◌};
-ghost use Rattle.race_set.specs.Bytes.{span_end, covers, surely_at, may_be_at, reads_byte, may_write, surely_writes, may_write_at, may_write_word, is_unplaced_reader};
+ghost use Rattle.std.specs.Prelude.{◌≡◌, ◌↔◌, ◌+◌, ◌<◌, ◌^◌, IsTrue};
+ghost use Rattle.race_set.specs.Bytes.{byte_of, covers, HasByte, surely_at, may_be_at, reads_byte, may_write, surely_writes, may_write_at, may_write_word, is_unplaced_reader};
 
 use odr_log::log::Pos;
 
-/// Bytes in a row.
+/// Bytes in a row, at addresses modulo 2^32.
 #[derive(Clone, Copy, Debug, PartialEq, Eq)]
 pub struct Span {
     pub first: u32,
@@ -23,19 +23,19 @@ pub struct AccessShape {
 }
 
 impl Span {
-    /// The first address after the span, at most the end of memory.
-    pub fn end(&self) -> u64
-        ensures end { result ≡ span_end self.now }
-        ensures bound { result ≤ 2 ^ 32 }
+    /// The byte with a number in the span, modulo 2^32.
+    pub fn byte(&self, i: u32) -> u32
+        ensures { result ≡ byte_of self.now i }
     {
-        (u64::from(self.first) + u64::from(self.len)).min(1 << 32)
+        self.first.wrapping_add(i)
     }
 
-    /// Whether the span has a byte.
+    /// Whether the span has a byte, modulo 2^32.
     pub fn covers(&self, byte: u32) -> bool
-        ensures { result ≡ covers byte self.now }
+        ensures covers { result ≡ covers byte self.now }
+        ensures has { IsTrue result ↔ HasByte self.now byte }
     {
-        self.first <= byte && u64::from(byte) < self.end()
+        byte.wrapping_sub(self.first) < self.len
     }
 }
 

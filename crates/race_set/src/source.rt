@@ -25,7 +25,7 @@ fn is_after(recorded: &Matrix, reader: usize, other: usize) -> bool
     other == reader || recorded.has(reader, other)
 }
 
-// Whether an access is a writer or stands before it, or isn't before the reader.
+// Whether an access is a writer or stands before it, or is a reader or stands after it.
 fn is_passed(recorded: &Matrix, reader: usize, writer: usize, other: usize) -> bool
     requires square { IsSquare recorded.now }
     requires reader_in { reader < recorded.now.count }
@@ -36,7 +36,7 @@ fn is_passed(recorded: &Matrix, reader: usize, writer: usize, other: usize) -> b
     is_after(recorded, other, writer) || is_after(recorded, reader, other)
 }
 
-// Whether each other access that may write a byte stands after a reader.
+// Whether each access that may write a byte is a reader or stands after it.
 fn is_initial(recorded: &Matrix, shapes: &[AccessShape], byte: u32, reader: usize) -> bool
     requires matrix { IsMatrixOf recorded.now shapes.now }
     requires reader_in { reader < length shapes.now }
@@ -50,7 +50,7 @@ fn is_initial(recorded: &Matrix, shapes: &[AccessShape], byte: u32, reader: usiz
     true
 }
 
-// Whether each other access that may write a byte stands before a writer or after a reader.
+// Whether each access that may write a byte is a writer or stands before it, or is a reader or stands after it.
 fn are_passed(
     recorded: &Matrix,
     shapes: &[AccessShape],
