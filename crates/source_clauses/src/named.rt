@@ -9,8 +9,6 @@ use order_clauses::order_lit::OrderLit;
 /// What the clauses of a reader name: its sources' selections, the conditions of its candidates, and their next ones.
 #[derive(Debug, Drop)]
 pub struct Named {
-    /// The variable of the first selection.
-    pub first: u64,
     /// A literal for each candidate, and one for the initial bits.
     pub selected: List<Lit>,
     /// Whether each candidate stands before the reader and hits.

@@ -143,10 +143,10 @@ pub fn add_reader(
 {
     let nexts = nexts_of(alloc, table, reader.candidates.as_slice())?;
     let olders = olders_of(alloc, table, clauses, reader)?;
-    let first = clauses.vars();
+    // The count tells that the clauses name known variables alone.
+    let _vars = clauses.vars();
     let selected = selections(alloc, clauses, reader.candidates.len() + 1)?;
     let named = Named {
-        first,
         selected,
         olders,
         nexts,

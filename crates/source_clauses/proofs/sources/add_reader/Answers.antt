@@ -16,10 +16,10 @@ returns-clause-ok c =
     let varied : Formula = c.selections.new.clauses in
     let table = c.args.table.now in
     reader_added c.args.clauses.now gated varied c.add_selected.new.clauses table c.args.reader.now
-    (record { first = c.vars-first.result; selected = c.in_ok-selected.selected; olders = c.in_ok-olders.olders; nexts = c.in_ok-nexts.nexts })
+    (record { selected = c.in_ok-selected.selected; olders = c.in_ok-olders.olders; nexts = c.in_ok-nexts.nexts })
     (record {
       knows = c.requires.known;
-      gated_known = c.vars-first.ensures.known;
+      gated_known = c.vars-vars.ensures.known;
       olders = c.in_ok-olders.ensures.olders;
       selected = subst (λ (n : ℕ). AreSelected gated.vars (n + 1) c.in_ok-selected.selected) c.len.ensures c.in_ok-selected.ensures.selected;
       varied_is = subst (λ (n : ℕ). varied ≡ record gated { vars = gated.vars + (n + 1) }) c.len.ensures c.in_ok-selected.ensures.ok;
