@@ -9,8 +9,10 @@ use Rattle.odr_log.specs.declared.log.Pos.{Pos}
 use Rattle.guided_walk.specs.Guided.{Given, Visits, at, conditional_in}
 use Rattle.guided_walk.specs.Orders.{In, Stands}
 use Rattle.guided_walk.specs.Fits.{FitsAlong, FitsVisit, byte_address, conditional_by, memory_along, read_count, reserved}
-use Rattle.access_fits.specs.Fitting.{FitsOrder, IsFitting, LooksBack, address_at}
-use Rattle.access_fits.specs.Law.{AreSteps, FitsByOrder, IsQuiet}
+use Rattle.walk_facts.specs.Links.{access_address}
+use Rattle.walk_facts.specs.Quiet.{IsQuiet}
+use Rattle.access_fits.specs.Fitting.{FitsOrder, IsFitting, LooksBack}
+use Rattle.access_fits.specs.Law.{AreSteps, FitsByOrder}
 use Rattle.access_fits.proofs.Front.{Front, front_none, front_next}
 use Rattle.access_fits.proofs.Bytes.{byte_to, byte_from}
 use Rattle.access_fits.proofs.Won.{Succeeds, won_where, won_is, won_iff}
@@ -23,20 +25,20 @@ fitting_to : (image : Layout) (given : Given) (visits : Visits) (accesses steps 
     → Front steps done (p ∷ later) → In p steps → In p accesses → FitsAfter image given visits done p → IsFitting image given visits accesses (Stands steps) p
 fitting_to image given visits accesses steps done later p are front there listed fits = record {
   bytes = λ (i : ℕ) (less : i < read_count image (at visits p)).
-      let cell : (c : Cell) × (opening_cells image (byte_address (address_at image visits p) i) ≡ Some c) = are.cells p listed i less in
-      byte_to image visits accesses steps done later p (byte_address (address_at image visits p) i) (given.bytes p.thread p.step i) cell.0 are front cell.1 (fits.bytes i less);
+      let cell : (c : Cell) × (opening_cells image (byte_address (access_address image visits p) i) ≡ Some c) = are.cells p listed i less in
+      byte_to image visits accesses steps done later p (byte_address (access_address image visits p) i) (given.bytes p.thread p.step i) cell.0 are front cell.1 (fits.bytes i less);
   won = λ (lr : Pos) (address : ℕ) (e : conditional_by (conditional_in image (at visits p).seen) (at visits p).outcome ≡ Some address) (looks : LooksBack image visits lr p).
       won_iff (given.won p.thread p.step) address (reserved image visits p.thread done) (Succeeds image visits accesses steps lr p address)
       (won_where image visits accesses steps done later lr p address are front there looks)
-      (fits.won address (address_at image visits lr) e (are.links lr p there looks));
+      (fits.won address (access_address image visits lr) e (are.links lr p there looks));
 }
 
 fitting_from : (image : Layout) (given : Given) (visits : Visits) (accesses steps done later : List Pos) (p : Pos) → AreSteps image visits accesses steps
     → Front steps done (p ∷ later) → In p steps → In p accesses → IsFitting image given visits accesses (Stands steps) p → FitsAfter image given visits done p
 fitting_from image given visits accesses steps done later p are front there listed fits = record {
   bytes = λ (i : ℕ) (less : i < read_count image (at visits p)).
-      let cell : (c : Cell) × (opening_cells image (byte_address (address_at image visits p) i) ≡ Some c) = are.cells p listed i less in
-      byte_from image visits accesses steps done later p (byte_address (address_at image visits p) i) (given.bytes p.thread p.step i) cell.0 are front cell.1 (fits.bytes i less);
+      let cell : (c : Cell) × (opening_cells image (byte_address (access_address image visits p) i) ≡ Some c) = are.cells p listed i less in
+      byte_from image visits accesses steps done later p (byte_address (access_address image visits p) i) (given.bytes p.thread p.step i) cell.0 are front cell.1 (fits.bytes i less);
   won = λ (address link : ℕ) (e : conditional_by (conditional_in image (at visits p).seen) (at visits p).outcome ≡ Some address) (linked : (at visits p).seen.link ≡ Some link).
       let looks : (lr : Pos) × LooksBack image visits lr p = are.back p link there linked in
       won_is (given.won p.thread p.step) address (reserved image visits p.thread done) (Succeeds image visits accesses steps looks.0 p address)

@@ -3,4 +3,5 @@ mod Front
 mod Bytes
 mod Reserved
 mod Won
-pub mod Along
+mod Along
+mod Woven

@@ -11,7 +11,8 @@ use Rattle.guided_walk.specs.Guided.{Visits, at, instr_of}
 use Rattle.guided_walk.specs.Orders.{In, Stands}
 use Rattle.guided_walk.specs.Fits.{reserved}
 use Rattle.walk_orders.proofs.Lists.{stands_first}
-use Rattle.access_fits.specs.Fitting.{is_linking, LooksBack, address_at, IsUndisturbed}
+use Rattle.walk_facts.specs.Links.{access_address}
+use Rattle.access_fits.specs.Fitting.{is_linking, LooksBack, IsUndisturbed}
 use Rattle.access_fits.specs.Law.{AreSteps}
 use Rattle.access_fits.proofs.Front.{Front, done_before, before_next, done_stands}
 use Rattle.access_fits.proofs.Reserved.{reserves_at, keeps_at, own_after, IsKept, IsLost, KeptOrLost, kept_or_lost}
@@ -31,9 +32,9 @@ since_lr image visits accesses steps done later lr p are front looks q s same x 
     (subst (λ (t : ℕ). is_linking (instr_of image (visits t q.step).seen) ≡ false) (sym same) (looks.last q.step above below))
 
 state_at : (image : Layout) (visits : Visits) (accesses steps done later : List Pos) (lr p : Pos) → AreSteps image visits accesses steps → Front steps done (p ∷ later)
-    → In p steps → LooksBack image visits lr p → KeptOrLost image visits p.thread lr (address_at image visits lr) done
+    → In p steps → LooksBack image visits lr p → KeptOrLost image visits p.thread lr (access_address image visits lr) done
 state_at image visits accesses steps done later lr p are front there looks =
-    kept_or_lost image visits p.thread lr (address_at image visits lr) done front.done_once
+    kept_or_lost image visits p.thread lr (access_address image visits lr) done front.done_once
     (done_before steps done later p lr front (are.earlier lr p there looks.thread looks.earlier)) looks.thread
     (λ (x : Option ℕ). reserves_at (at visits lr).seen.local (instr_of image (at visits lr).seen) x looks.reserves)
     (since_lr image visits accesses steps done later lr p are front looks)
@@ -57,24 +58,24 @@ disturbed_where image visits accesses steps done later lr p l are front lost non
 -- wins of one value, and success of the other
 abbrev pub Succeeds : Layout → Visits → List Pos → List Pos → (lr p : Pos) → ℕ → Type 0
 Succeeds image visits accesses steps lr p address =
-    (address_at image visits lr ≡ address) × IsUndisturbed visits accesses (Stands steps) lr p (address_at image visits lr)
+    (access_address image visits lr ≡ address) × IsUndisturbed visits accesses (Stands steps) lr p (access_address image visits lr)
 
 won_by : (image : Layout) (visits : Visits) (accesses steps done later : List Pos) (lr p : Pos) (address : ℕ) → AreSteps image visits accesses steps
-    → Front steps done (p ∷ later) → KeptOrLost image visits p.thread lr (address_at image visits lr) done
+    → Front steps done (p ∷ later) → KeptOrLost image visits p.thread lr (access_address image visits lr) done
     → (wins (Some address) (reserved image visits p.thread done) ≡ true) ↔ Succeeds image visits accesses steps lr p address
 won_by image visits accesses steps done later lr p address are front (inl kept) =
-    let is : wins (Some address) (reserved image visits p.thread done) ≡ nat_eq (address_at image visits lr) address = ap (wins (Some address)) kept.reservation in (
+    let is : wins (Some address) (reserved image visits p.thread done) ≡ nat_eq (access_address image visits lr) address = ap (wins (Some address)) kept.reservation in (
       λ (w : wins (Some address) (reserved image visits p.thread done) ≡ true). (
-        eqb-true (address_at image visits lr) address (sym is ∙ w),
-        undisturbed_where image visits accesses steps done later lr p (address_at image visits lr) front kept,
+        eqb-true (access_address image visits lr) address (sym is ∙ w),
+        undisturbed_where image visits accesses steps done later lr p (access_address image visits lr) front kept,
       ),
-      λ (both : Succeeds image visits accesses steps lr p address). is ∙ eq-eqb (address_at image visits lr) address both.0,
+      λ (both : Succeeds image visits accesses steps lr p address). is ∙ eq-eqb (access_address image visits lr) address both.0,
     )
 won_by image visits accesses steps done later lr p address are front (inr lost) =
     let is : wins (Some address) (reserved image visits p.thread done) ≡ false = ap (wins (Some address)) lost.reservation in (
       λ (w : wins (Some address) (reserved image visits p.thread done) ≡ true). absurd (false≢true (sym is ∙ w)),
       λ (both : Succeeds image visits accesses steps lr p address).
-          absurd (disturbed_where image visits accesses steps done later lr p (address_at image visits lr) are front lost both.1),
+          absurd (disturbed_where image visits accesses steps done later lr p (access_address image visits lr) are front lost both.1),
     )
 
 pub won_where : (image : Layout) (visits : Visits) (accesses steps done later : List Pos) (lr p : Pos) (address : ℕ) → AreSteps image visits accesses steps

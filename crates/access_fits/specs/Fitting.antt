@@ -1,17 +1,17 @@
 -- Whether what is given is what memory and reservations are where accesses stand in an order.
-use Rattle.std.specs.Prelude.{◌≡◌, ◌≢◌, ◌⊎◌, ◌↔◌, ℕ, ◌<◌, Bool, true, false, List, [], ◌∷◌, nat_eq, Option, Some, None, Result, Ok, if◌then◌else◌}
+use Rattle.std.specs.Prelude.{◌≡◌, ◌≢◌, ◌⊎◌, ◌↔◌, ℕ, ◌<◌, Bool, true, false, List, [], ◌∷◌, nat_eq, Option, Some, None, Result, Ok, Err, if◌then◌else◌}
 use Rattle.elf_image.specs.declared.write.Write.{Write}
 use Rattle.elf_image.specs.Layout.{Layout}
 use Rattle.elf_image.specs.Memory.{opening_cells, byte_in}
 use Rattle.rv32_decode.specs.declared.instr.Instr.{Instr}
-use Rattle.rv32_decode.specs.declared.instr.Instr.TheVariants as instr
 use Rattle.odr_log.specs.declared.log.Cause.{Cause}
 use Rattle.odr_log.specs.declared.log.Pos.{Pos}
 use Rattle.rv_model.specs.Thread.{touches}
 use Rattle.rv_model.specs.Noted.{writes_in}
-use Rattle.guided_walk.specs.Guided.{Given, Visits, at, instr_of, access_in, conditional_in}
+use Rattle.guided_walk.specs.Guided.{Given, Visits, at, instr_of, conditional_in}
 use Rattle.guided_walk.specs.Orders.{In}
 use Rattle.guided_walk.specs.Fits.{byte_address, conditional_by, read_count}
+use Rattle.walk_facts.specs.Links.{access_address, is_linking as links, is_reserving as reserves}
 
 -- ---- read bytes
 
@@ -45,15 +45,15 @@ IsByteBefore image visits accesses before p address byte =
 
 -- ---- store-conditionals
 
+-- an LR was fetched
 abbrev pub is_reserving : Result Instr Cause → Bool
-is_reserving (Ok (instr.LoadReserved rd rs1 aq rl)) = true
-is_reserving other = false
+is_reserving (Ok instruction) = reserves instruction
+is_reserving (Err fault) = false
 
--- an LR or an SC
+-- an LR or an SC was
 abbrev pub is_linking : Result Instr Cause → Bool
-is_linking (Ok (instr.LoadReserved rd rs1 aq rl)) = true
-is_linking (Ok (instr.StoreConditional rd rs1 rs2 aq rl)) = true
-is_linking other = false
+is_linking (Ok instruction) = links instruction
+is_linking (Err fault) = false
 
 -- A step looks back to the last LR of its thread before it, where no SC stands between.
 pub record LooksBack (image : Layout) (visits : Visits) (lr p : Pos) : Type 0 where
@@ -61,10 +61,6 @@ pub record LooksBack (image : Layout) (visits : Visits) (lr p : Pos) : Type 0 wh
   pub earlier : lr.step < p.step
   pub reserves : is_reserving (instr_of image (at visits lr).seen) ≡ true
   pub last : (step : ℕ) → lr.step < step → step < p.step → is_linking (instr_of image (visits p.thread step).seen) ≡ false
-
--- the address of a step's access
-abbrev pub address_at : Layout → Visits → Pos → ℕ
-address_at image visits p = (access_in image (at visits p).seen).address
 
 -- between an LR and an SC no access of another thread writes to the word at an address
 abbrev pub IsUndisturbed : Visits → List Pos → (Pos → Pos → Type 0) → (lr p : Pos) → ℕ → Type 0
@@ -77,9 +73,9 @@ IsUndisturbed visits accesses before lr p address =
 -- where its address is the LR's and no other thread wrote to the word between.
 pub record IsFitting (image : Layout) (given : Given) (visits : Visits) (accesses : List Pos) (before : Pos → Pos → Type 0) (p : Pos) : Type 0 where
   pub bytes : (i : ℕ) → i < read_count image (at visits p)
-      → IsByteBefore image visits accesses before p (byte_address (address_at image visits p) i) (given.bytes p.thread p.step i)
+      → IsByteBefore image visits accesses before p (byte_address (access_address image visits p) i) (given.bytes p.thread p.step i)
   pub won : (lr : Pos) (address : ℕ) → conditional_by (conditional_in image (at visits p).seen) (at visits p).outcome ≡ Some address → LooksBack image visits lr p
-      → (given.won p.thread p.step ≡ true) ↔ ((address_at image visits lr ≡ address) × IsUndisturbed visits accesses before lr p (address_at image visits lr))
+      → (given.won p.thread p.step ≡ true) ↔ ((access_address image visits lr ≡ address) × IsUndisturbed visits accesses before lr p (access_address image visits lr))
 
 abbrev pub FitsOrder : Layout → Given → Visits → List Pos → (Pos → Pos → Type 0) → Type 0
 FitsOrder image given visits accesses before = (p : Pos) → In p accesses → IsFitting image given visits accesses before p

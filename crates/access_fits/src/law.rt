@@ -1,6 +1,11 @@
-ghost use Rattle.access_fits.specs.Law.{FitsByOrder};
+ghost use Rattle.access_fits.specs.Law.{FitsByOrder, WovenFits};
 
 /// What is given fits the steps of a list exactly where it fits the order of the accesses among them.
 pub fn fits_by_order()
     ensures { FitsByOrder }
+{}
+
+/// What is given fits a woven schedule exactly where it fits the order in which the schedule has the accesses of the walk.
+pub fn woven_schedules_fit_by_order()
+    ensures { WovenFits }
 {}

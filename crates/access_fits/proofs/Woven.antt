@@ -1,10 +1,8 @@
 -- The steps of a woven schedule are steps with accesses among them.
-use Rattle.std.specs.Prelude.{◌≡◌, ℕ, ◌<◌, List, Option, Some, None, option_map, Ok, refl}
+use Rattle.std.specs.Prelude.{◌≡◌, ℕ, ◌<◌, List, Option, Some, None, option_map, refl}
 use Rattle.std.proofs.Common.{sym, ◌∙◌, ap, arith, inl, inr}
 use Rattle.std.proofs.lemmas.Option.{none-some}
 use Rattle.elf_image.specs.Layout.{Layout}
-use Rattle.rv32_decode.specs.declared.instr.Instr.{Instr}
-use Rattle.rv32_decode.specs.declared.instr.Instr.TheVariants as instr
 use Rattle.odr_log.specs.declared.log.Log.{Log}
 use Rattle.odr_log.specs.declared.log.Pos.{Pos}
 use Rattle.rv_model.specs.CallsFit.{CallsFit}
@@ -17,8 +15,8 @@ use Rattle.guided_walk.specs.Schedules.{places}
 use Rattle.guided_walk.specs.Told.{IsPlace, told}
 use Rattle.guided_walk.specs.Woven.{Woven}
 use Rattle.guided_walk.proofs.NeedsOrder.{counted_place}
-use Rattle.access_fits.specs.Fitting.{LooksBack, address_at, is_linking, is_reserving}
-use Rattle.access_fits.specs.Law.{AreSteps}
+use Rattle.access_fits.specs.Fitting.{LooksBack, is_linking, is_reserving}
+use Rattle.access_fits.specs.Law.{AreSteps, WovenFits}
 use Rattle.access_fits.proofs.Along.{fits_by_order}
 use Rattle.walk_facts.specs.Bytes.{HasRights, MayRead}
 use Rattle.walk_facts.specs.Law.{ArePlaces}
@@ -29,43 +27,6 @@ use Rattle.walk_facts.proofs.Links.{link_law, looks_back_law, place_few}
 use Rattle.walk_facts.proofs.Places.{places_law}
 use Rattle.walk_facts.proofs.Quiet.{quiet_law}
 use Rattle.walk_facts.proofs.Rights.{rights_law}
-use Rattle.woven_fits.specs.Law.{WovenFitsLaw}
-
--- ---- instructions
-
-reserves_ok : (i : Instr) → is_reserving (Ok i) ≡ reserves i
-reserves_ok (instr.LoadReserved rd rs1 aq rl) = refl
-reserves_ok (instr.StoreConditional rd rs1 rs2 aq rl) = refl
-reserves_ok (instr.Lui rd imm) = refl
-reserves_ok (instr.Auipc rd imm) = refl
-reserves_ok (instr.Jal rd offset) = refl
-reserves_ok (instr.Jalr rd rs1 offset) = refl
-reserves_ok (instr.Branch op rs1 rs2 offset) = refl
-reserves_ok (instr.Load op rd rs1 offset) = refl
-reserves_ok (instr.Store op rs1 rs2 offset) = refl
-reserves_ok (instr.Imm op rd rs1 imm) = refl
-reserves_ok (instr.Op op rd rs1 rs2) = refl
-reserves_ok (instr.Fence rd rs1 imm) = refl
-reserves_ok instr.Ecall = refl
-reserves_ok instr.Ebreak = refl
-reserves_ok (instr.Amo op rd rs1 rs2 aq rl) = refl
-
-links_ok : (i : Instr) → is_linking (Ok i) ≡ links i
-links_ok (instr.LoadReserved rd rs1 aq rl) = refl
-links_ok (instr.StoreConditional rd rs1 rs2 aq rl) = refl
-links_ok (instr.Lui rd imm) = refl
-links_ok (instr.Auipc rd imm) = refl
-links_ok (instr.Jal rd offset) = refl
-links_ok (instr.Jalr rd rs1 offset) = refl
-links_ok (instr.Branch op rs1 rs2 offset) = refl
-links_ok (instr.Load op rd rs1 offset) = refl
-links_ok (instr.Store op rs1 rs2 offset) = refl
-links_ok (instr.Imm op rd rs1 imm) = refl
-links_ok (instr.Op op rd rs1 rs2) = refl
-links_ok (instr.Fence rd rs1 imm) = refl
-links_ok instr.Ecall = refl
-links_ok instr.Ebreak = refl
-links_ok (instr.Amo op rd rs1 rs2 aq rl) = refl
 
 -- ---- looking back
 
@@ -74,11 +35,11 @@ counted_before image log walk is p place k less = counted_place image log walk i
 
 reserves_at : (image : Layout) (log : Log) (walk : Walk) (given : Given) (v : Visits) → IsWalk image log walk → IsGuided image (told log walk) given v
     → (q : Pos) → Counted log q → is_reserving (instr_of image (at v q).seen) ≡ reserves (instr_of_step walk q)
-reserves_at image log walk given v is guided q counted = ap is_reserving (instr_is image log walk given v is guided q counted) ∙ reserves_ok (instr_of_step walk q)
+reserves_at image log walk given v is guided q counted = ap is_reserving (instr_is image log walk given v is guided q counted)
 
 links_at : (image : Layout) (log : Log) (walk : Walk) (given : Given) (v : Visits) → IsWalk image log walk → IsGuided image (told log walk) given v
     → (q : Pos) → Counted log q → is_linking (instr_of image (at v q).seen) ≡ links (instr_of_step walk q)
-links_at image log walk given v is guided q counted = ap is_linking (instr_is image log walk given v is guided q counted) ∙ links_ok (instr_of_step walk q)
+links_at image log walk given v is guided q counted = ap is_linking (instr_is image log walk given v is guided q counted)
 
 to_walk : (image : Layout) (log : Log) (walk : Walk) (given : Given) (v : Visits) → IsWalk image log walk → IsGuided image (told log walk) given v
     → (t s : ℕ) (p : Pos) → p.thread ≡ t → IsPlace (told log walk) p → LooksBack image v (step_of t s) p → IsLinkedTo (places_of walk p.thread) p.step s
@@ -121,11 +82,11 @@ are_steps image log walk given v pairs schedule accesses is fit guided woven lis
       listed = λ (p : Pos) (i : In p accesses). there.all p (access_place p i);
       quiet = λ (p : Pos) (i : In p (places schedule)). elim (quiet_law image log walk given v p is guided (there.only p i)) [
         | inl access ↦ inl (lists.all p access)
-        | inr quiet ↦ inr (record { reads = quiet.0.reads; writes = quiet.0.writes; conditional = quiet.0.conditional })
+        | inr quiet ↦ inr quiet.0
       ];
       cells = λ (p : Pos) (i : In p accesses) (k : ℕ) (less : k < read_count image (at v p)).
           let rights : HasRights image (at v p) = rights_law image log walk given v p is fit guided (access_place p i) in
-          let read : MayRead image (byte_address (address_at image v p) k) = rights.reads k less in
+          let read : MayRead image (byte_address (access_address image v p) k) = rights.reads k less in
           (read.0, read.1);
       earlier = there.earlier;
       rises = there.rises;
@@ -142,6 +103,6 @@ are_steps image log walk given v pairs schedule accesses is fit guided woven lis
           (step_of p.thread found.0, to_visits image log walk given v is guided found.0 p place ((looks_back_law (places_of walk p.thread) p.step found.0).0 found.1));
     }
 
-pub woven_fits_law : WovenFitsLaw
+pub woven_fits_law : WovenFits
 woven_fits_law image log walk given v pairs schedule accesses is fit guided woven lists =
     fits_by_order image given v accesses (places schedule) (are_steps image log walk given v pairs schedule accesses is fit guided woven lists)

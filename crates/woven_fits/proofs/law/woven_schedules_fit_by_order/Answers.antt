@@ -1,5 +1,0 @@
-use Rattle.woven_fits.proofs.Steps.{woven_fits_law}
-use Rattle.woven_fits.proofs.law.woven_schedules_fit_by_order.Goals as goal
-
-pub returns : goal.returns
-returns c = woven_fits_law

@@ -1,4 +1,0 @@
-//! What fits a woven schedule: what fits the order in which the schedule has the accesses.
-#![tactic(auto)]
-
-pub mod law;
