@@ -4,4 +4,4 @@ mod Bytes
 mod Reserved
 mod Won
 mod Along
-mod Woven
+pub mod Woven

@@ -41,7 +41,7 @@ links_at : (image : Layout) (log : Log) (walk : Walk) (given : Given) (v : Visit
     → (q : Pos) → Counted log q → is_linking (instr_of image (at v q).seen) ≡ links (instr_of_step walk q)
 links_at image log walk given v is guided q counted = ap is_linking (instr_is image log walk given v is guided q counted)
 
-to_walk : (image : Layout) (log : Log) (walk : Walk) (given : Given) (v : Visits) → IsWalk image log walk → IsGuided image (told log walk) given v
+pub to_walk : (image : Layout) (log : Log) (walk : Walk) (given : Given) (v : Visits) → IsWalk image log walk → IsGuided image (told log walk) given v
     → (t s : ℕ) (p : Pos) → p.thread ≡ t → IsPlace (told log walk) p → LooksBack image v (step_of t s) p → IsLinkedTo (places_of walk p.thread) p.step s
 to_walk image log walk given v is guided t s p same place back =
     let counted : Counted log (step_of p.thread s) = counted_before image log walk is p place s back.earlier in
@@ -54,7 +54,7 @@ to_walk image log walk given v is guided t s p same place back =
           sym (links_at image log walk given v is guided (step_of p.thread k) (counted_before image log walk is p place k before)) ∙ back.last k after before;
     }
 
-to_visits : (image : Layout) (log : Log) (walk : Walk) (given : Given) (v : Visits) → IsWalk image log walk → IsGuided image (told log walk) given v
+pub to_visits : (image : Layout) (log : Log) (walk : Walk) (given : Given) (v : Visits) → IsWalk image log walk → IsGuided image (told log walk) given v
     → (s : ℕ) (p : Pos) → IsPlace (told log walk) p → IsLinkedTo (places_of walk p.thread) p.step s → LooksBack image v (step_of p.thread s) p
 to_visits image log walk given v is guided s p place linked = record {
   thread = refl;
