@@ -169,12 +169,21 @@ fn add_pigeon(
 }
 
 /// No two of the first pigeons share a hole.
-fn add_hole(alloc: Global, store: &mut ClauseStore<'_>, pigeons: u64, hole: u64) -> Result<(), Memory> {
+fn add_hole(
+    alloc: Global,
+    store: &mut ClauseStore<'_>,
+    pigeons: u64,
+    hole: u64,
+) -> Result<(), Memory> {
     for pair in 0..64 {
         let one = pair / 8;
         let other = pair % 8;
         if one < other && other < pigeons {
-            add(alloc, store, &[not(place(one, hole)), not(place(other, hole))])?;
+            add(
+                alloc,
+                store,
+                &[not(place(one, hole)), not(place(other, hole))],
+            )?;
         }
     }
     Ok(())
