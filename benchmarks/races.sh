@@ -8,7 +8,7 @@ cd "$(dirname "$0")/.."
 source benchmarks/program.sh
 
 new_program race_benchmark "odr_list odr_log happens_before race_set" \
-    odr_limits odr_list rv32_decode elf_image odr_log rv_model clause_store order_clauses happens_before race_set
+    odr_limits odr_list rv32_decode elf_image odr_log rv_model clause_store order_clauses happens_before order_vars race_set
 cat > "$program/src/main.rt" <<'CODE'
 #![tactic(auto)]
 
