@@ -1,3 +1,4 @@
 mod Bits
 mod Seeing
 mod Succeeding
+mod Joining

@@ -3,4 +3,4 @@
 
 mod law;
 
-pub use law::{conditionals_succeed_by_terms, readers_see_by_terms};
+pub use law::{bytes_are_read_together, conditionals_succeed_by_terms, readers_see_by_terms};
