@@ -1,4 +1,4 @@
-mod Listed
+pub mod Listed
 mod Written
 mod Touched
 mod Scenes
