@@ -74,8 +74,10 @@ IsUndisturbed visits accesses before lr p address =
 pub record IsFitting (image : Layout) (given : Given) (visits : Visits) (accesses : List Pos) (before : Pos → Pos → Type 0) (p : Pos) : Type 0 where
   pub bytes : (i : ℕ) → i < read_count image (at visits p)
       → IsByteBefore image visits accesses before p (byte_address (access_address image visits p) i) (given.bytes p.thread p.step i)
-  pub won : (lr : Pos) (address : ℕ) → conditional_by (conditional_in image (at visits p).seen) (at visits p).outcome ≡ Some address → LooksBack image visits lr p
-      → (given.won p.thread p.step ≡ true) ↔ ((access_address image visits lr ≡ address) × IsUndisturbed visits accesses before lr p (access_address image visits lr))
+  pub won : (lr : Pos) (address : ℕ) → conditional_by (conditional_in image (at visits p).seen) (at visits p).outcome ≡ Some address
+      → LooksBack image visits lr p
+      → (given.won p.thread p.step ≡ true)
+      ↔ ((access_address image visits lr ≡ address) × IsUndisturbed visits accesses before lr p (access_address image visits lr))
 
 abbrev pub FitsOrder : Layout → Given → Visits → List Pos → (Pos → Pos → Type 0) → Type 0
 FitsOrder image given visits accesses before = (p : Pos) → In p accesses → IsFitting image given visits accesses before p

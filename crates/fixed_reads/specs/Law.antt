@@ -18,7 +18,8 @@ byte_at t nodes accesses x i = place_of (address_value t nodes (access_at access
 
 -- No write is seen: the byte is the initial one.
 abbrev pub InitialBytes : Type 0
-InitialBytes = (image : Layout) (log : Log) (nodes : List Shape) (accesses : List Access) (shapes : List AccessShape) (t : Assignment) (lt : ℕ → ℕ → Bool) (x i : ℕ)
+InitialBytes = (image : Layout) (log : Log) (nodes : List Shape) (accesses : List Access) (shapes : List AccessShape)
+    (t : Assignment) (lt : ℕ → ℕ → Bool) (x i : ℕ)
     → AreShapes nodes accesses shapes → IsTotalOf log accesses lt → x < length accesses
     → IsFixed log shapes (byte_at t nodes accesses x i) (access_at accesses x).pos None
     → SeesAt image t nodes accesses lt x i
@@ -26,7 +27,8 @@ InitialBytes = (image : Layout) (log : Log) (nodes : List Shape) (accesses : Lis
 
 -- One write is seen: the byte is the one that it has there.
 abbrev pub WrittenBytes : Type 0
-WrittenBytes = (image : Layout) (log : Log) (nodes : List Shape) (accesses : List Access) (shapes : List AccessShape) (t : Assignment) (lt : ℕ → ℕ → Bool) (x i y m : ℕ)
+WrittenBytes = (image : Layout) (log : Log) (nodes : List Shape) (accesses : List Access) (shapes : List AccessShape)
+    (t : Assignment) (lt : ℕ → ℕ → Bool) (x i y m : ℕ)
     → AreShapes nodes accesses shapes → IsTotalOf log accesses lt → x < length accesses → y < length accesses → m < length (access_at accesses y).writes
     → place_of (address_value t nodes (access_at accesses y)) m ≡ byte_at t nodes accesses x i
     → IsFixed log shapes (byte_at t nodes accesses x i) (access_at accesses x).pos (Some (access_at accesses y).pos)

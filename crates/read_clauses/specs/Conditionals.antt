@@ -30,7 +30,8 @@ pub record IsEnder (encoder : Encoder) (accesses : List Access) (lr x : ℕ) (en
 
 -- The store-conditional of access x that looks back to access lr: its outcome is its guard, and each ender is an access.
 pub record IsConditionalOf (encoder : Encoder) (accesses : List Access) (lr x : ℕ) (sc : StoreConditional) : Type 0 where
-  pub outcome : (w : Assignment) (t : TermAssignment) → Spells encoder t w → literal_value w sc.outcome ≡ nat_eq (guard_value t encoder.pool (access_at accesses x)) 1
+  pub outcome : (w : Assignment) (t : TermAssignment) → Spells encoder t w
+      → literal_value w sc.outcome ≡ nat_eq (guard_value t encoder.pool (access_at accesses x)) 1
   pub same : (w : Assignment) (t : TermAssignment) → Spells encoder t w
       → spelled w sc.same ≡ nat_eq (address_value t encoder.pool (access_at accesses lr)) (address_value t encoder.pool (access_at accesses x))
   pub access : ℕ → ℕ

@@ -48,13 +48,15 @@ pub record IsReaderOf (encoder : Encoder) (image : Layout) (accesses : List Acce
   -- the literals of a term that has the initial byte's value
   pub first : ℕ
   pub initial : AreBitsOf encoder first reader.initial
-  pub initial_is : (t : TermAssignment) → value_at t encoder.pool first ≡ byte_in (opening_cells image (place_of (address_value t encoder.pool (access_at accesses x)) i))
+  pub initial_is : (t : TermAssignment)
+      → value_at t encoder.pool first ≡ byte_in (opening_cells image (place_of (address_value t encoder.pool (access_at accesses x)) i))
 
 -- An order of all accesses is spelled by the table's literals as far as a reader and its candidates stand in it.
 pub record IsSpelledOrder (w : Assignment) (table : Table) (place access : ℕ → ℕ) (count x : ℕ) (lt : ℕ → ℕ → Bool) : Type 0 where
   pub strict : IsStrict lt
   pub one_place : (j k : ℕ) → j < count → k < count → place (access j) ≡ place (access k) → access j ≡ access k
-  pub between : (j k : ℕ) → j < count → k < count → access j ≢ access k → spelled w (lit_in table (place (access j)) (place (access k))) ≡ lt (access j) (access k)
+  pub between : (j k : ℕ) → j < count → k < count → access j ≢ access k
+      → spelled w (lit_in table (place (access j)) (place (access k))) ≡ lt (access j) (access k)
   pub before : (k : ℕ) → k < count → spelled w (lit_in table (place (access k)) (place x)) ≡ lt (access k) x
 
 -- No other byte can be seen: what hits before the reader is a candidate, or a candidate that hits before the reader hides it.
