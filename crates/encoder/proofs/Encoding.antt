@@ -43,7 +43,7 @@ terms_same nodes = record { grows = omega arith; node = λ id h. refl; width = �
 pub variables_same : (nodes : List Shape) → KeepsVariables nodes nodes
 variables_same nodes width number id inside there = there
 
-one_of : (id other : ℕ) → Contains (id ∷ []) other → id ≡ other
+pub one_of : (id other : ℕ) → Contains (id ∷ []) other → id ≡ other
 one_of id other (zero, lt, e) = e
 one_of id other (suc k, lt, e) = absurd (omega (arith, lt))
 

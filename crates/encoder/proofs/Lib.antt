@@ -1,1 +1,1 @@
-mod Encoding
+pub mod Encoding

@@ -1,4 +1,4 @@
-mod Bits
-mod Seeing
-mod Succeeding
-mod Joining
+pub mod Bits
+pub mod Seeing
+pub mod Succeeding
+pub mod Joining
