@@ -47,7 +47,7 @@ all_spot_parts accesses reading (spot ∷ more) = spot_parts accesses reading sp
 -- all terms that a reader stands on, but for those of initial bytes, which its address decides
 abbrev pub reader_parts : List Access → Reading → List Spot → List ℕ
 reader_parts accesses reading spots =
-    all_spot_parts accesses reading spots ++ read_parts accesses reading ++ (access_at accesses reading.access).address.number ∷ []
+    all_spot_parts accesses reading spots ++ (read_parts accesses reading ++ (access_at accesses reading.access).address.number ∷ [])
 
 -- bytes that an access reads
 pub record IsReading (accesses : List Access) (reading : Reading) : Type 0 where
