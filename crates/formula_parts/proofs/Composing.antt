@@ -49,7 +49,7 @@ access_older old new v access keeps given = record {
 pub all_older : (setting : Setting) (old new : Encoder) (v : Partial) → Keeps old new → AreGiven setting new v → AreGiven setting old v
 all_older setting old new v keeps given x there = access_older old new v (access_at setting.accesses x) keeps (given x there)
 
-ready_older : (setting : Setting) (old new : Encoder) (v : Partial) (lt : ℕ → ℕ → Bool) (x : ℕ) → Keeps old new → IsReady setting new v lt x → IsReady setting old v lt x
+pub ready_older : (setting : Setting) (old new : Encoder) (v : Partial) (lt : ℕ → ℕ → Bool) (x : ℕ) → Keeps old new → IsReady setting new v lt x → IsReady setting old v lt x
 ready_older setting old new v lt x keeps ready = record {
   older = λ (y : ℕ) (there : y < length setting.accesses) (before : lt y x ≡ true). access_older old new v (access_at setting.accesses y) keeps (ready.older y there before);
   address = given_older old new v (access_at setting.accesses x).address.number keeps ready.address;
