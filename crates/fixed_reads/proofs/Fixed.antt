@@ -44,16 +44,16 @@ pub record Scene : Type 0 where
   pub order : IsTotalOf log accesses lt
   pub reader : x < length accesses
 
-abbrev here : Scene → ℕ → Access
+abbrev pub here : Scene → ℕ → Access
 here s y = access_at s.accesses y
 
-abbrev count : Scene → ℕ
+abbrev pub count : Scene → ℕ
 count s = length s.accesses
 
-abbrev byte : Scene → ℕ
+abbrev pub byte : Scene → ℕ
 byte s = byte_at s.t s.nodes s.accesses s.x s.i
 
-abbrev shape : Scene → ℕ → AccessShape
+abbrev pub shape : Scene → ℕ → AccessShape
 shape s y = shape_at s.shapes y
 
 shape_is : (s : Scene) (y : ℕ) → y < count s → IsShapeOf s.nodes (here s y) (shape s y)
@@ -61,14 +61,14 @@ shape_is s y less = s.are.each y less
 
 -- ---- the order and the writes, by positions
 
-abbrev before : Scene → Pos → Pos → Bool
+abbrev pub before : Scene → Pos → Pos → Bool
 before s p q = s.lt (number_of s.accesses p) (number_of s.accesses q)
 
 -- an access takes place and writes the byte
-abbrev takes : Scene → ℕ → Bool
+abbrev pub takes : Scene → ℕ → Bool
 takes s y = nat_eq (guard_value s.t s.nodes (here s y)) 1 && reaches (length (here s y).writes) (address_value s.t s.nodes (here s y)) (byte s)
 
-abbrev writes : Scene → Pos → Bool
+abbrev pub writes : Scene → Pos → Bool
 writes s p = takes s (number_of s.accesses p)
 
 number_at : (s : Scene) (y : ℕ) → y < count s → number_of s.accesses (here s y).pos ≡ y
@@ -111,7 +111,7 @@ pos_there : (s : Scene) (p : Pos) → IsNumbered s p → (here s (number_of s.ac
 pos_there s p n =
     ap (λ (q : Pos). (here s (number_of s.accesses q)).pos) (sym n.is) ∙ ap (λ (k : ℕ). (here s k).pos) (number_at s n.number n.there) ∙ n.is
 
-is_total : (s : Scene) → IsTotal s.log s.shapes (before s)
+pub is_total : (s : Scene) → IsTotal s.log s.shapes (before s)
 is_total s = record {
   irreflexive = λ (p : Pos) (a : IsAccess s.shapes p). s.order.irreflexive (number_of s.accesses p) (number_there s p (numbered s p a));
   transitive = λ (p q r : Pos) (a : IsAccess s.shapes p) (b : IsAccess s.shapes q) (c : IsAccess s.shapes r).
@@ -217,7 +217,7 @@ surely_there s y there e =
     let second = and_parts (is_none (shape s y).link) (surely_at (byte s) (shape s y).place) first.1 in
     surely_by s y (shape s y).place there refl first.0 ((shape_is s y there).certain first.0 (none_by (shape s y).link second.0) s.t) second.1
 
-are_writes : (s : Scene) → AreWrites s.shapes (byte s) (writes s)
+pub are_writes : (s : Scene) → AreWrites s.shapes (byte s) (writes s)
 are_writes s = record {
   may = λ (a : AccessShape) (listed : Contains s.shapes a) (e : writes s a.pos ≡ true).
       let found : (y : ℕ) × (y < count s) × (shape s y ≡ a) = numbered_shape s a listed in
@@ -258,7 +258,7 @@ pub record IsSource (s : Scene) (y : ℕ) : Type 0 where
   pub older : s.lt y s.x ≡ true
   pub newest : (z m : ℕ) → z < count s → m < length (here s z).writes → z ≢ y → s.lt z s.x ≡ true → hits s.t s.nodes (here s z) m (here s s.x) s.i ≡ true → s.lt z y ≡ true
 
-source_of : (s : Scene) (y : ℕ) → y < count s → IsNewest s.shapes (before s) (writes s) (here s s.x).pos (here s y).pos → IsSource s y
+pub source_of : (s : Scene) (y : ℕ) → y < count s → IsNewest s.shapes (before s) (writes s) (here s s.x).pos (here s y).pos → IsSource s y
 source_of s y there newest = record {
   takes_it = takes_to s y (sym (writes_is s y there) ∙ newest.takes_place);
   older = sym (before_is s y s.x there s.reader) ∙ newest.older;

@@ -1,2 +1,2 @@
-mod Numbers
-mod Fixed
+pub mod Numbers
+pub mod Fixed
