@@ -61,11 +61,11 @@ constant_value w nodes id value e = by_node (slice_get nodes id) refl e where
 
 -- ---- a literal
 
-abbrev no_lit : Lit
+abbrev pub no_lit : Lit
 no_lit = record { var = 0; positive = false }
 
 -- the only literal of a term of one bit
-one_literal : (lits : List Lit) → length lits ≡ 1 → lits ≡ slice_index_or lits 0 no_lit ∷ []
+pub one_literal : (lits : List Lit) → length lits ≡ 1 → lits ≡ slice_index_or lits 0 no_lit ∷ []
 one_literal [] e = absurd (omega (arith, e))
 one_literal (l ∷ []) e = refl
 one_literal (l ∷ k ∷ more) e = absurd (omega (arith, e))
@@ -74,13 +74,13 @@ bit_test : (b : Bool) (n : ℕ) → bit_of b ≡ n → b ≡ nat_eq n 1
 bit_test true n e = ap (λ (m : ℕ). nat_eq m 1) e
 bit_test false n e = ap (λ (m : ℕ). nat_eq m 1) e
 
-literal_test : (w : Assignment) (lits : List Lit) (n : ℕ) → length lits ≡ 1 → number_of w lits ≡ n → literal_value w (slice_index_or lits 0 no_lit) ≡ nat_eq n 1
+pub literal_test : (w : Assignment) (lits : List Lit) (n : ℕ) → length lits ≡ 1 → number_of w lits ≡ n → literal_value w (slice_index_or lits 0 no_lit) ≡ nat_eq n 1
 literal_test w lits n one e =
     let l = slice_index_or lits 0 no_lit in
     let sum : bit_of (literal_value w l) ≡ bit_of (literal_value w l) + 2 * 0 = omega arith in
     bit_test (literal_value w l) n (sum ∙ ap (number_of w) (sym (one_literal lits one)) ∙ e)
 
-first_listed : (lits : List Lit) → length lits ≡ 1 → Contains lits (slice_index_or lits 0 no_lit)
+pub first_listed : (lits : List Lit) → length lits ≡ 1 → Contains lits (slice_index_or lits 0 no_lit)
 first_listed lits one = subst (λ (xs : List Lit). Contains xs (slice_index_or lits 0 no_lit)) (sym (one_literal lits one)) (Contains-head (slice_index_or lits 0 no_lit) [])
 
 decided_literal : (v : Partial) (l : Lit) → Decides v l → (b : Bool) × IsDecided v (order_lit.Is l) b

@@ -1,0 +1,2 @@
+pub mod Succeeding
+pub mod Whole
