@@ -1,0 +1,5 @@
+mod Passing
+mod Counts
+mod Standing
+mod Weaving
+mod Ends
