@@ -1,5 +1,5 @@
 -- The exit that is the last call of a log, and the number of its threads.
-use Rattle.std.specs.Prelude.{◌≡◌, ℕ, ◌+◌, ◌-◌, ◌<◌, ◌≤◌, ◌%◌, Bool, true, false, ◌&&◌, cond, List, [], ◌∷◌, length, nat_eq, nat_lt, slice_get, Some, None, if◌then◌else◌, refl}
+use Rattle.std.specs.Prelude.{◌≡◌, ℕ, ◌-◌, ◌<◌, ◌≤◌, ◌%◌, Bool, true, false, ◌&&◌, cond, List, [], ◌∷◌, length, nat_eq, nat_lt, slice_get, Some, None, if◌then◌else◌, refl}
 use Rattle.std.specs.List.{fold}
 use Rattle.std.proofs.Common.{sym, ◌∙◌, ap, subst, arith, inl, inr}
 use Rattle.std.proofs.lemmas.Bool.{cases_lt, false≢true, ltb-true}

@@ -1,5 +1,6 @@
 -- An exit and a fault behind all other steps.
-use Rattle.std.specs.Prelude.{◌≡◌, ◌↔◌, ℕ, ◌+◌, ◌<◌, ◌≤◌, ◌⊎◌, List, [], ◌∷◌, ◌++◌, Option, Some, None, Contains, option_to_list, refl}
+use Rattle.std.specs.Prelude.{◌≡◌, ◌↔◌, ℕ, ◌+◌, ◌<◌, List, [], ◌∷◌, ◌++◌, Option, Some, None, Contains, option_to_list, refl}
+use Rattle.std.specs.Option.{option_map}
 use Rattle.std.proofs.Common.{sym, ◌∙◌, ap, subst, arith, inl, inr}
 use Rattle.std.proofs.lemmas.Bool.{cases_lt}
 use Rattle.std.proofs.lemmas.List.{append-nil}
@@ -7,24 +8,22 @@ use Rattle.std.proofs.lemmas.Option.{none-some, same_Some}
 use Rattle.odr_log.specs.declared.log.Log.{Log}
 use Rattle.odr_log.specs.declared.log.Pos.{Pos}
 use Rattle.rv_model.specs.Run.{logged}
-use Rattle.rv_model.specs.CallsFit.{CallsFit}
 use Rattle.rv_model.specs.RecordedOrder.{Counted, RecordedOrder}
 use Rattle.guided_walk.specs.Along.{fault_by}
-use Rattle.guided_walk.specs.Orders.{Distinct, In, Keeps, Lists, Stands}
+use Rattle.guided_walk.specs.Orders.{Distinct, In, Stands}
 use Rattle.guided_walk.specs.Ordered.{ExitLast, IsExit}
-use Rattle.guided_walk.specs.Schedules.{places, places_after, times}
+use Rattle.guided_walk.specs.Schedules.{places, times}
 use Rattle.guided_walk.specs.Woven.{Woven, faulting}
-use Rattle.guided_walk.proofs.Placing.{distinct_places, done_after, in-append, in_left, place_below, place_in, places-append}
+use Rattle.guided_walk.proofs.Placing.{distinct_places, in-append, in_left, place_below, place_in, places-append}
 use Rattle.walk_orders.proofs.Exits.{exit_by, exit_keeps, no_exits_last, same_exit}
-use Rattle.walk_orders.proofs.Lists.{in_right, keeps_standing, stands_across, stands_left}
+use Rattle.walk_orders.proofs.Lists.{in_right, keeps_standing, stands_across}
 use Rattle.walk_orders.proofs.Weaving.{exit_last_by, fault_after}
-use Rattle.schedule_extract.specs.Going.{ExitsEnd, Follows, Goes, IsExitOf, IsGoing, NoRing, PairsCounted, PairsGoOn, Precedes}
+use Rattle.schedule_extract.specs.Going.{Follows, Goes, IsExitOf, IsGoing, NoRing, PairsCounted, PairsGoOn, Precedes}
 use Rattle.schedule_extract.proofs.Weaving.{Scene, exit_by_scene, exit_ends_all, exit_or, follows_with, places_more, precedes_counted}
 
 -- the thread of the exit
 abbrev pub exiting : Option Pos → List ℕ
-exiting (Some p) = p.thread ∷ []
-exiting None = []
+exiting exit = option_to_list (option_map (λ p. p.thread) exit)
 
 -- as often as it exits, the exit's thread has gone up to it
 exit_step : (log : Log) (pairs : List (Pos × Pos)) (exit : Option Pos) (schedule : List ℕ) (p : Pos) → Scene log pairs exit → IsGoing log pairs exit schedule → exit ≡ Some p

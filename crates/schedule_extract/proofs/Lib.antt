@@ -3,3 +3,4 @@ mod Counts
 mod Standing
 mod Weaving
 mod Ends
+mod Totals

@@ -1,16 +1,16 @@
 -- What stands before a step, of the next steps of all threads.
-use Rattle.std.specs.Prelude.{◌≡◌, ℕ, ◌+◌, ◌<◌, ◌≤◌, ◌⊎◌, List, length, Contains, refl}
-use Rattle.std.proofs.Common.{sym, ◌∙◌, ap, subst, arith, inl, inr, get_or}
+use Rattle.std.specs.Prelude.{◌≡◌, ℕ, ◌<◌, ◌≤◌, List, length, Contains, refl}
+use Rattle.std.proofs.Common.{sym, ap, subst, arith, inl, inr, get_or}
 use Rattle.std.proofs.lemmas.Bool.{cases_lt}
 use Rattle.std.proofs.lemmas.List.{get_or_past}
 use Rattle.odr_log.specs.declared.log.Log.{Log}
 use Rattle.odr_log.specs.declared.log.Pos.{Pos}
 use Rattle.odr_log.specs.declared.log.ThreadLog.{ThreadLog}
 use Rattle.rv_model.specs.Run.{logged, nothing_logged}
-use Rattle.rv_model.specs.RecordedOrder.{One, More, Counted, CountedEdge, InThread, RecordedOrder}
+use Rattle.rv_model.specs.RecordedOrder.{More, Counted, InThread, RecordedOrder}
 use Rattle.guided_walk.proofs.Table.{same_pos}
 use Rattle.walk_orders.proofs.Weaving.{from_counted}
-use Rattle.schedule_extract.specs.Going.{HasAll, IsTaken, Precedes, head}
+use Rattle.schedule_extract.specs.Going.{HasAll, IsTaken, head}
 
 -- a counted step is of a thread of the log
 pub counted_thread : (log : Log) (p : Pos) → Counted log p → p.thread < length log.threads

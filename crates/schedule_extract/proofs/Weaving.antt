@@ -1,22 +1,21 @@
 -- Weaving goes on until all steps but the exit are taken.
-use Rattle.std.specs.Prelude.{◌≡◌, ◌≢◌, ℕ, zero, suc, ◌+◌, ◌-◌, ◌<◌, ◌≤◌, ◌⊎◌, Bool, true, false, cond, List, [], ◌∷◌, ◌++◌, length, replicate, slice_get, slice_set, Option, Some, None, Contains, refl}
+use Rattle.std.specs.Prelude.{◌≡◌, ◌≢◌, ℕ, zero, suc, ◌+◌, ◌-◌, ◌<◌, ◌≤◌, ◌⊎◌, Bool, true, false, cond, List, [], ◌∷◌, ◌++◌, length, replicate, slice_get, slice_set, Option, Some, None, refl}
 use Rattle.std.proofs.Common.{sym, ◌∙◌, ap, subst, arith, inl, inr, get_or, eq-eqb}
 use Rattle.std.proofs.lemmas.Bool.{cases_lt, cases_eq, false≢true, ne_eqb}
 use Rattle.std.proofs.lemmas.List.{get_or-replicate, get_or_past, get_or-set_same, get_or-set_other, length-replicate, length-set}
 use Rattle.std.proofs.lemmas.Option.{none-some, same_Some}
-use Rattle.odr_log.specs.declared.log.Call.{Call}
 use Rattle.odr_log.specs.declared.log.Call.TheVariants as call
 use Rattle.odr_log.specs.declared.log.CallRec.{CallRec}
 use Rattle.odr_log.specs.declared.log.Log.{Log}
 use Rattle.odr_log.specs.declared.log.Pos.{Pos}
 use Rattle.rv_model.specs.Run.{logged}
 use Rattle.rv_model.specs.CallsFit.{CallsFit}
-use Rattle.rv_model.specs.RecordedOrder.{One, More, Counted, CountedEdge, Edge, InThread, ByCalls, BySpawn, IsStepOf, RecordedOrder}
+use Rattle.rv_model.specs.RecordedOrder.{One, More, Counted, CountedEdge, Edge, InThread, ByCalls, BySpawn, IsStepOf}
 use Rattle.happens_before.proofs.ClosedForm.{calls_rise}
 use Rattle.guided_walk.specs.Law.{holds}
-use Rattle.guided_walk.specs.Orders.{In, Stands}
+use Rattle.guided_walk.specs.Orders.{In}
 use Rattle.guided_walk.specs.Ordered.{IsExit}
-use Rattle.guided_walk.specs.Schedules.{places, places_after, times, next_of}
+use Rattle.guided_walk.specs.Schedules.{places, times, next_of}
 use Rattle.guided_walk.proofs.Placing.{done_after, in-append, place_in, places-append, times-append}
 use Rattle.guided_walk.proofs.Records.{at_among, rec}
 use Rattle.guided_walk.proofs.Table.{same_pos}
@@ -24,7 +23,7 @@ use Rattle.walk_orders.proofs.Exits.{contains_among, earlier_goes}
 use Rattle.walk_orders.proofs.Lists.{stands_across, stands_left}
 use Rattle.walk_orders.proofs.Weaving.{counted_after, from_counted, to_counted}
 use Rattle.schedule_extract.specs.Going.{ExitsEnd, Follows, Goes, IsExitOf, IsGoing, IsReady, IsStuck, Lacks, NoRing, PairsCounted, PairsGoOn, Precedes, head}
-use Rattle.schedule_extract.proofs.Standing.{counted_thread, up_to}
+use Rattle.schedule_extract.proofs.Standing.{counted_thread}
 
 -- what is known of a log and of pairs that are woven
 pub record Scene (log : Log) (pairs : List (Pos × Pos)) (exit : Option Pos) : Type 0 where

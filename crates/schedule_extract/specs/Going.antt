@@ -7,7 +7,7 @@ use Rattle.rv_model.specs.RecordedOrder.{Counted, RecordedOrder}
 use Rattle.guided_walk.specs.Law.{holds}
 use Rattle.guided_walk.specs.Ordered.{IsExit}
 use Rattle.guided_walk.specs.Orders.{In, Stands}
-use Rattle.guided_walk.specs.Schedules.{places, times}
+use Rattle.guided_walk.specs.Schedules.{places}
 
 -- recorded or decided to stand before a step
 abbrev pub Precedes : Log → List (Pos × Pos) → Pos → Pos → Type 0

@@ -1,5 +1,5 @@
 -- How many of the pairs, in front, keep a thread back no more.
-use Rattle.std.specs.Prelude.{◌≡◌, ℕ, ◌<◌, ◌≤◌, ◌⊎◌, List, length, slice_index_or}
+use Rattle.std.specs.Prelude.{◌≡◌, ℕ, ◌<◌, ◌≤◌, List, slice_index_or}
 use Rattle.odr_log.specs.declared.log.Pos.{Pos}
 use Rattle.schedule_extract.specs.Going.{IsTaken, head}
 

@@ -1,5 +1,6 @@
 //! Weaving the threads of a log into a schedule.
-ghost use Rattle.std.specs.Prelude.{◌≡◌, ◌≤◌, length, IfOk, option_to_list};
+ghost use Rattle.std.specs.Prelude.{◌≡◌, ◌≤◌, ◌++◌, length, IfOk, OnOk, option_to_list};
+ghost use Rattle.std.specs.Option.{option_map};
 ghost use Rattle.std.specs.List.Sorted.{IsNonDecreasingBy};
 ghost use Rattle.happens_before.specs.Table.{IsOrderOf};
 ghost use Rattle.rv_model.specs.CallsFit.{CallsFit};
@@ -54,6 +55,22 @@ fn faulting(end: End) -> Option<u8>
     }
 }
 
+fn thread_of(at: Option<Pos>) -> Option<u8>
+    ensures { result ≡ option_map (λ at. at.thread) at }
+{
+    at.map(|at| at.thread)
+}
+
+/// Appends a step of a thread, where there is one.
+fn push_step(schedule: &mut Schedule, thread: Option<u8>) -> Result<(), Memory>
+    ensures { OnOk result (schedule.new ≡ schedule.old ++ option_to_list thread) }
+{
+    if let Some(thread) = thread {
+        schedule.push(thread)?;
+    }
+    Ok(())
+}
+
 /// A schedule that is woven for the decided pairs: each thread's counted steps in an order that keeps the recorded one
 /// and has each decided pair in its order, an exit last, and behind it all a step of the thread whose fault ends the
 /// log. It goes on with one thread while that is ready.
@@ -76,11 +93,7 @@ pub fn extract(alloc: Global, log: &Log, order: &Order, decided: &[(Pos, Pos)]) 
     let exit = exit_of(log);
     let pairs = by_step(alloc, decided)?;
     let mut schedule = weave(alloc, log, order, pairs.as_slice(), exit)?;
-    if let Some(exit) = exit {
-        schedule.push(exit.thread)?;
-    }
-    if let Some(thread) = faulting(log.end) {
-        schedule.push(thread)?;
-    }
+    push_step(&mut schedule, thread_of(exit))?;
+    push_step(&mut schedule, faulting(log.end))?;
     Ok(schedule)
 }

@@ -2,6 +2,7 @@
 #![tactic(auto)]
 
 pub mod extract;
+pub mod laws;
 mod marks;
 mod ready;
 

@@ -1,7 +1,6 @@
-use Rattle.std.specs.Prelude.{◌≡◌, ◌<◌, length}
-use Rattle.std.proofs.Common.{rules, arith, get_or}
+use Rattle.std.specs.Prelude.{ℕ, ◌<◌, length, replicate}
+use Rattle.std.proofs.Common.{rules, arith}
 use Rattle.std.proofs.lemmas.List.{get_or-replicate}
-use Rattle.rv_model.specs.Run.{logged}
 use Rattle.schedule_extract.proofs.Passing.{none_passed, passed_step}
 use Rattle.schedule_extract.proofs.Standing.{counted_thread}
 use Rattle.schedule_extract.proofs.Weaving.{Scene, all_woven, left_less, none_woven, woven_more}
@@ -10,7 +9,7 @@ use Rattle.schedule_extract.proofs.extract.weave.Goals as goal
 
 pub loop-thread-init : goal.loop-thread-init
 loop-thread-init c = record {
-  passed = none_passed c.args.pairs.now _ _ (λ t room. get_or-replicate 256 t 0 0 room);
+  passed = none_passed c.args.pairs.now (replicate {A = ℕ} 256 0) (replicate {A = ℕ} 256 0) (λ t room. get_or-replicate 256 t 0 0 room);
   weaving = none_woven c.args.log.now c.args.pairs.now c.args.exit c.new-schedule.result c.new-schedule.ensures;
 }
 

@@ -1,4 +1,4 @@
-use Rattle.std.specs.Prelude.{◌≡◌, length}
+use Rattle.std.specs.Prelude.{length}
 use Rattle.schedule_extract.specs.Marks.{AllPassed}
 use Rattle.schedule_extract.proofs.Weaving.{IsWeaving, left}
 use Rattle.schedule_extract.proofs.extract.weave.Given as goal

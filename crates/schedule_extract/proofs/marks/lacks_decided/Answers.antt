@@ -1,6 +1,5 @@
-use Rattle.std.proofs.Common.{◌≡◌, ◌<◌, length, true, sym, ◌∙◌, arith, get_or}
+use Rattle.std.proofs.Common.{sym, ◌∙◌, arith}
 use Rattle.std.proofs.lemmas.Bool.{false≢true}
-use Rattle.odr_log.specs.declared.log.Pos.{Pos}
 use Rattle.schedule_extract.proofs.Passing.{all_taken, same_test}
 use Rattle.schedule_extract.proofs.marks.lacks_decided.Goals as goal
 use Rattle.schedule_extract.proofs.marks.lacks_decided.Goals.{else-mark-pairs-via-then-mark-pairs+else-eq, else-mark-pairs-via-else-mark-pairs}

@@ -1,0 +1,11 @@
+ghost use Rattle.schedule_extract.specs.Law.{TotalOrdersAreWoven, WovenKeepsOrder};
+
+/// The pairs of a total order of accesses that agrees with the recorded order can be woven.
+pub fn total_orders_can_be_woven()
+    ensures { TotalOrdersAreWoven }
+{}
+
+/// A schedule that is woven for the pairs of a total order of accesses, but those that are recorded, decides that order.
+pub fn woven_schedules_keep_the_order()
+    ensures { WovenKeepsOrder }
+{}
