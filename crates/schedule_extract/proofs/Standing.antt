@@ -31,10 +31,10 @@ up_to log p q r same le order =
     let counted : Counted log q = from_counted log q r order in
     elim (cases_lt p.step q.step) [
       | inl less ↦ More (record {
-          from = subst (λ (t : ℕ). p.step < (logged log t).steps) (sym same) (omega (arith, less, counted));
-          to = counted;
-          edge = InThread same less;
-        }) order
+        from = subst (λ (t : ℕ). p.step < (logged log t).steps) (sym same) (omega (arith, less, counted));
+        to = counted;
+        edge = InThread same less;
+      }) order
       | inr past ↦ subst (λ (x : Pos). RecordedOrder log x r) (sym (same_pos p q (sym same) (omega (arith, le, past)))) order
     ]
 

@@ -10,18 +10,19 @@ use Rattle.rv_model.specs.RecordedOrder.{Counted, RecordedOrder}
 use Rattle.rv_model.specs.Run.{logged}
 use Rattle.rv_model.specs.Walk.{IsWalk, Walk}
 use Rattle.guided_walk.specs.Law.{holds}
-use Rattle.guided_walk.specs.Orders.{Distinct, In, Stands}
-use Rattle.guided_walk.specs.Schedules.{places, places_after}
+use Rattle.guided_walk.specs.Orders.{Distinct, In, Keeps, Stands}
+use Rattle.guided_walk.specs.Ordered.{ExitLast, IsExit}
+use Rattle.guided_walk.specs.Schedules.{places, places_after, times}
 use Rattle.guided_walk.specs.Woven.{Woven, faulting}
 use Rattle.guided_walk.proofs.CallOrder.{record_counted}
-use Rattle.guided_walk.proofs.Placing.{distinct_places, done_after, place_in, places-append}
+use Rattle.guided_walk.proofs.Placing.{distinct_places, done_after, place_below, place_in, places-append}
 use Rattle.guided_walk.proofs.Table.{same_pos}
-use Rattle.walk_orders.specs.Total.{ArePairs, ComesFrom, Decides}
+use Rattle.walk_orders.specs.Total.{ComesFrom, Decides}
 use Rattle.walk_orders.proofs.Exits.{ExitsBy, exit_by, exit_ends_thread}
-use Rattle.walk_orders.proofs.Lists.{keeps_stands, stands_left, stands_once, stands_or, stands_then}
+use Rattle.walk_orders.proofs.Lists.{keeps_stands, stands_first, stands_left, stands_once, stands_or, stands_second, stands_then}
 use Rattle.walk_orders.proofs.Weaving.{from_counted, no_ring, to_counted, weaving_law}
 use Rattle.schedule_extract.specs.Going.{ExitsEnd, NoRing, Precedes}
-use Rattle.schedule_extract.specs.Law.{TotalOrdersAreWoven, WovenKeepsOrder}
+use Rattle.schedule_extract.specs.Law.{TotalOrdersAreWoven, WovenCanBeWoven, WovenKeepsOrder}
 
 -- ---- what stands before what, as a test
 
@@ -95,36 +96,63 @@ exits_end image log walk is p exit =
       | inr past ↦ omega (arith, counted, past)
     ]
 
-ring_by : (log : Log) (chosen : List Pos) (before : Pos → Pos → Bool) (pairs : List (Pos × Pos)) → CallsFit log → ComesFrom log chosen (holds before) → ArePairs chosen (holds before) pairs
-    → NoRing log pairs
-ring_by log chosen before pairs fit from are = record {
-  before = stands from.steps;
-  strict = λ (p : Pos) (counted : Counted log p) (e : stands from.steps p p ≡ true). stands_once p from.steps from.lists.once (test_stands from.steps p p e);
-  transitive = λ (p q r : Pos) (i : Counted log p) (j : Counted log q) (k : Counted log r) (e : stands from.steps p q ≡ true) (f : stands from.steps q r ≡ true).
-      stands_test from.steps p r (stands_then p q r from.steps from.lists.once (test_stands from.steps p q e) (test_stands from.steps q r f));
+-- a list of all counted steps that keeps the recorded order and has the pairs in order
+ring_by : (log : Log) (pairs : List (Pos × Pos)) (steps : List Pos) → CallsFit log → Distinct steps → ((p : Pos) → Counted log p → In p steps) → Keeps (RecordedOrder log) steps
+    → ((p q : Pos) → Contains pairs (p, q) → Stands steps p q) → NoRing log pairs
+ring_by log pairs steps fit once all keeps paired = record {
+  before = stands steps;
+  strict = λ (p : Pos) (counted : Counted log p) (e : stands steps p p ≡ true). stands_once p steps once (test_stands steps p p e);
+  transitive = λ (p q r : Pos) (i : Counted log p) (j : Counted log q) (k : Counted log r) (e : stands steps p q ≡ true) (f : stands steps q r ≡ true).
+      stands_test steps p r (stands_then p q r steps once (test_stands steps p q e) (test_stands steps q r f));
   has = has;
 } where
-  recorded : (p q : Pos) → RecordedOrder log p q → Stands from.steps p q
+  recorded : (p q : Pos) → RecordedOrder log p q → Stands steps p q
   recorded p q order =
-      elim (stands_or p q from.steps (from.lists.all p (from_counted log p q order)) (from.lists.all q (to_counted log p q order))
+      elim (stands_or p q steps (all p (from_counted log p q order)) (all q (to_counted log p q order))
       (λ (e : p ≡ q). no_ring log fit p (subst (RecordedOrder log p) (sym e) order))) [
         | inl s ↦ s
-        | inr s ↦ absurd (keeps_stands (RecordedOrder log) q p from.steps from.recorded s order)
+        | inr s ↦ absurd (keeps_stands (RecordedOrder log) q p steps keeps s order)
       ]
 
-  has : (p q : Pos) → Precedes log pairs p q → stands from.steps p q ≡ true
-  has p q (inl order) = stands_test from.steps p q (recorded p q order)
-  has p q (inr pair) =
-      let within : In p chosen × In q chosen × holds before p q = are p q pair in
-      stands_test from.steps p q ((from.decided p q within.0 within.1).1 within.2)
+  has : (p q : Pos) → Precedes log pairs p q → stands steps p q ≡ true
+  has p q (inl order) = stands_test steps p q (recorded p q order)
+  has p q (inr pair) = stands_test steps p q (paired p q pair)
 
 pub total_woven : TotalOrdersAreWoven
 total_woven image log walk chosen before pairs is fit counted goes_on total are = record {
   exits_end = exits_end image log walk is;
   counted = λ (p q : Pos) (pair : Contains pairs (p, q)). (counted p (are p q pair).0, counted q (are p q pair).1);
   go_on = λ (p q : Pos) (pair : Contains pairs (p, q)). goes_on p (are p q pair).0;
-  no_ring = ring_by log chosen before pairs fit (weaving_law image log walk chosen before is fit counted goes_on total) are;
+  no_ring =
+      let from : ComesFrom log chosen (holds before) = weaving_law image log walk chosen before is fit counted goes_on total in
+      ring_by log pairs from.steps fit from.lists.once from.lists.all from.recorded
+      (λ (p q : Pos) (pair : Contains pairs (p, q)). let within : In p chosen × In q chosen × holds before p q = are p q pair in (from.decided p q within.0 within.1).1 within.2);
 }
+
+-- ---- where some schedule is woven
+
+nothing_after : (log : Log) (steps : List Pos) (p q : Pos) → ExitLast log steps → IsExit log p → Stands steps p q → ⊥
+nothing_after log [] p q last exit s = s
+nothing_after log (x ∷ xs) p q last exit (inl s) = subst (In q) (last.0 (subst (IsExit log) (sym s.0) exit)) s.1
+nothing_after log (x ∷ xs) p q last exit (inr s) = nothing_after log xs p q last.1 exit s
+
+pub woven_can : WovenCanBeWoven
+woven_can image log walk pairs schedule is fit woven =
+    let steps : List Pos = places woven.counted in
+    let tail : List Pos = places_after (done_after [] woven.counted) (faulting log.end) in
+    let whole : places schedule ≡ steps ++ tail = ap places woven.whole ∙ places-append [] woven.counted (faulting log.end) in
+    let only : (p : Pos) → In p steps → Counted log p =
+    λ (p : Pos) (i : In p steps). (let below : p.step < 0 + times p.thread woven.counted = place_below [] woven.counted p i in omega (arith, below, woven.steps p.thread)) in
+    record {
+      exits_end = exits_end image log walk is;
+      counted = λ (p q : Pos) (pair : Contains pairs (p, q)).
+          (only p (stands_first p q steps (woven.paired p q pair)), only q (stands_second p q steps (woven.paired p q pair)));
+      go_on = λ (p q : Pos) (pair : Contains pairs (p, q)) (exit : IsExit log p).
+          nothing_after log (places schedule) p q woven.exit_last exit (subst (λ (xs : List Pos). Stands xs p q) (sym whole) (stands_left p q steps tail (woven.paired p q pair)));
+      no_ring =
+          ring_by log pairs steps fit (distinct_places [] woven.counted)
+          (λ (p : Pos) (c : Counted log p). place_in [] woven.counted p (omega arith) (omega (arith, c, woven.steps p.thread))) woven.recorded woven.paired;
+    }
 
 -- ---- woven schedules keep the order
 

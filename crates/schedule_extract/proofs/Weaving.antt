@@ -168,23 +168,23 @@ first_more : (log : Log) (pairs : List (Pos × Pos)) (exit : Option Pos) (next :
     → IsFirst log exit next scene.ring.before n → IsFirst log exit next scene.ring.before (suc n)
 first_more log pairs exit next scene n goes first = elim (bool_or (scene.ring.before (head next n) (head next first.thread))) [
   | inl less ↦ record {
-      thread = n;
-      goes = goes;
-      first = λ (t : ℕ) (within : t < suc n) (on : Goes log exit (head next t)) (earlier : holds scene.ring.before (head next t) (head next n)). elim (cases_lt t n) [
-        | inl below ↦ first.first t below on (scene.ring.transitive (head next t) (head next n) (head next first.thread) on.0 goes.0 first.goes.0 earlier less)
-        | inr past ↦ (let same : t ≡ n = omega (arith, within, past) in
-            scene.ring.strict (head next n) goes.0 (subst (λ (u : ℕ). holds scene.ring.before (head next u) (head next n)) same earlier))
-      ];
-    }
+    thread = n;
+    goes = goes;
+    first = λ (t : ℕ) (within : t < suc n) (on : Goes log exit (head next t)) (earlier : holds scene.ring.before (head next t) (head next n)). elim (cases_lt t n) [
+      | inl below ↦ first.first t below on (scene.ring.transitive (head next t) (head next n) (head next first.thread) on.0 goes.0 first.goes.0 earlier less)
+      | inr past ↦ (let same : t ≡ n = omega (arith, within, past) in
+          scene.ring.strict (head next n) goes.0 (subst (λ (u : ℕ). holds scene.ring.before (head next u) (head next n)) same earlier))
+    ];
+  }
   | inr more ↦ record {
-      thread = first.thread;
-      goes = first.goes;
-      first = λ (t : ℕ) (within : t < suc n) (on : Goes log exit (head next t)) (earlier : holds scene.ring.before (head next t) (head next first.thread)). elim (cases_lt t n) [
-        | inl below ↦ first.first t below on earlier
-        | inr past ↦ (let same : t ≡ n = omega (arith, within, past) in
-            more (subst (λ (u : ℕ). holds scene.ring.before (head next u) (head next first.thread)) same earlier))
-      ];
-    }
+    thread = first.thread;
+    goes = first.goes;
+    first = λ (t : ℕ) (within : t < suc n) (on : Goes log exit (head next t)) (earlier : holds scene.ring.before (head next t) (head next first.thread)). elim (cases_lt t n) [
+      | inl below ↦ first.first t below on earlier
+      | inr past ↦ (let same : t ≡ n = omega (arith, within, past) in
+          more (subst (λ (u : ℕ). holds scene.ring.before (head next u) (head next first.thread)) same earlier))
+    ];
+  }
 ]
 
 first_alone : (log : Log) (pairs : List (Pos × Pos)) (exit : Option Pos) (next : List ℕ) → (scene : Scene log pairs exit) → (n : ℕ) → Goes log exit (head next n)
@@ -217,13 +217,13 @@ none_or_first log pairs exit next scene (suc n) = elim (none_or_first log pairs 
   | inr first ↦ elim (goes_or log exit (head next n)) [
     | inl goes ↦ inr (first_more log pairs exit next scene n goes first)
     | inr stays ↦ inr (record {
-        thread = first.thread;
-        goes = first.goes;
-        first = λ (t : ℕ) (within : t < suc n) (on : Goes log exit (head next t)) (earlier : holds scene.ring.before (head next t) (head next first.thread)). elim (cases_lt t n) [
-          | inl below ↦ first.first t below on earlier
-          | inr past ↦ (let same : t ≡ n = omega (arith, within, past) in stays (subst (λ (u : ℕ). Goes log exit (head next u)) same on))
-        ];
-      })
+      thread = first.thread;
+      goes = first.goes;
+      first = λ (t : ℕ) (within : t < suc n) (on : Goes log exit (head next t)) (earlier : holds scene.ring.before (head next t) (head next first.thread)). elim (cases_lt t n) [
+        | inl below ↦ first.first t below on earlier
+        | inr past ↦ (let same : t ≡ n = omega (arith, within, past) in stays (subst (λ (u : ℕ). Goes log exit (head next u)) same on))
+      ];
+    })
   ]
 ]
 

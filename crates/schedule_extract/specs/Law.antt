@@ -32,3 +32,8 @@ WovenKeepsOrder = (log : Log) (chosen : List Pos) (before : Pos → Pos → Bool
     → CallsFit log → AreCounted log chosen → IsTotal log chosen (holds before)
     → ((p q : Pos) → In p chosen → In q chosen → holds before p q → Precedes log pairs p q) → Woven log pairs schedule
     → (p q : Pos) → In p chosen → In q chosen → Decides schedule p q ↔ holds before p q
+
+-- Where some schedule is woven for pairs, they can be woven.
+abbrev pub WovenCanBeWoven : Type 0
+WovenCanBeWoven = (image : Layout) (log : Log) (walk : Walk) (pairs : List (Pos × Pos)) (schedule : List ℕ)
+    → IsWalk image log walk → CallsFit log → Woven log pairs schedule → CanBeWoven log pairs

@@ -55,6 +55,7 @@ fn faulting(end: End) -> Option<u8>
     }
 }
 
+/// The thread of a step.
 fn thread_of(at: Option<Pos>) -> Option<u8>
     ensures { result ≡ option_map (λ at. at.thread) at }
 {
@@ -76,13 +77,19 @@ fn push_step(schedule: &mut Schedule, thread: Option<u8>) -> Result<(), Memory>
 /// log. It goes on with one thread while that is ready.
 ///
 /// The order is that of the log, an exit is the last step of its thread and is first in no decided pair, and the
-/// decided pairs are of counted steps and make no ring with the recorded order. Each step asks the order once for each
-/// thread, and each thread passes each pair once.
+/// decided pairs are of counted steps and make no ring with the recorded order. While a thread goes on, each step asks
+/// the order once for each thread, and where another one has to go on, once for each two threads at most; each thread
+/// passes each pair once.
 ///
 /// # Errors
 ///
 /// `Memory` alone.
-pub fn extract(alloc: Global, log: &Log, order: &Order, decided: &[(Pos, Pos)]) -> Result<Schedule, Memory>
+pub fn extract(
+    alloc: Global,
+    log: &Log,
+    order: &Order,
+    decided: &[(Pos, Pos)],
+) -> Result<Schedule, Memory>
     requires of_log { IsOrderOf order.now log.now }
     requires exits_end { ExitsEnd log.now }
     requires counted { PairsCounted log.now decided.now }
