@@ -1,9 +1,12 @@
 //! Logs, decided pairs of their steps, and the schedules that they give.
 
+ghost use Rattle.std.specs.Prelude.{IfOk};
+ghost use Rattle.happens_before.specs.Table.{IsOrderOf};
+
 use crate::fitting::can_be_woven;
 use guest_programs::logs::{DEADLOCK_LOG, LOCKED_LOG, LOST_UPDATE_LOG, RACING_FAULT_LOG};
 use happens_before::order::Order;
-use odr_log::log::Pos;
+use odr_log::log::{Log, Pos};
 use odr_log::read_log;
 use sched_text::schedule::Schedule;
 use schedule_extract::extract::extract;
@@ -107,19 +110,29 @@ fn steps_of(alloc: Global, schedule: &[u8]) -> Result<Vec<Pos>, AllocError> {
     Ok(steps)
 }
 
+fn log_of(alloc: Global, bytes: &[u8]) -> Result<Log, Fail> {
+    Ok(read_log(alloc, bytes).ok().ok_or("a log")?)
+}
+
+fn order_of(alloc: Global, log: &Log) -> Result<Order, Fail>
+    ensures { IfOk result (λ order. IsOrderOf order log.now) }
+{
+    let order = Order::new(alloc, log)?;
+    Ok(order.ok_or("calls that fit")?)
+}
+
 /// The schedule that is woven for pairs; `steps` show that they can be woven.
 fn woven(
     alloc: Global,
-    bytes: &[u8],
+    log: &Log,
     decided: &[(Pos, Pos)],
     steps: &[Pos],
 ) -> Result<Schedule, Fail> {
-    let log = read_log(alloc, bytes).ok().ok_or("a log")?;
-    let order = Order::new(alloc, &log)?.ok_or("calls that fit")?;
-    if !can_be_woven(&log, &order, decided, steps) {
+    let order = order_of(alloc, log)?;
+    if !can_be_woven(log, &order, decided, steps) {
         return Err("pairs that can be woven".into());
     }
-    Ok(extract(alloc, &log, &order, decided)?)
+    Ok(extract(alloc, log, &order, decided)?)
 }
 
 /// Whether a row's schedule is woven.
@@ -127,7 +140,8 @@ fn is_woven(alloc: Global, row: &Row) -> Result<bool, Fail> {
     let decided = pairs_of(alloc, row.decided)?;
     let schedule = schedule_of(alloc, row.runs)?;
     let steps = steps_of(alloc, schedule.as_slice())?;
-    let found = woven(alloc, row.log, decided.as_slice(), steps.as_slice())?;
+    let log = log_of(alloc, row.log)?;
+    let found = woven(alloc, &log, decided.as_slice(), steps.as_slice())?;
     Ok(found.as_slice() == schedule.as_slice())
 }
 

@@ -1,6 +1,5 @@
 use Rattle.std.specs.Prelude.{◌≤◌, length}
 use Rattle.std.proofs.Common.{arith}
-use Rattle.odr_log.specs.declared.log.Pos.{Pos}
 use Rattle.schedule_rows.specs.Fitting.{GoesOn}
 use Rattle.schedule_rows.proofs.Members.{items_all}
 use Rattle.schedule_rows.proofs.fitting.all_go_on.Goals as goal

@@ -1,4 +1,4 @@
-use Rattle.std.specs.Prelude.{ℕ, Contains, refl}
+use Rattle.std.specs.Prelude.{Contains, refl}
 use Rattle.odr_log.specs.declared.log.Pos.{Pos}
 use Rattle.schedule_rows.proofs.Members.{below_more}
 use Rattle.schedule_rows.proofs.fitting.has_steps.Goals as goal
