@@ -62,7 +62,7 @@ static ROWS: [Row; 6] = [
     // Two workers that wait for each other's lock for ever, without an end.
     Row {
         log: &DEADLOCK_LOG,
-        decided: &[((2, 3), (1, 3))],
+        decided: &[((2, 2), (1, 3))],
         runs: &[(0, 9), (1, 3), (2, 4), (1, 1)],
     },
 ];
