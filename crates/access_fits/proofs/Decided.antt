@@ -31,7 +31,8 @@ Agree accesses one other = (p q : Pos) → In p accesses → In q accesses → o
 turned : (accesses : List Pos) (one other : Pos → Pos → Type 0) → Agree accesses one other → Agree accesses other one
 turned accesses one other agree p q i j = ((agree p q i j).1, (agree p q i j).0)
 
-same_byte : (image : Layout) (v : Visits) (accesses : List Pos) (one other : Pos → Pos → Type 0) → Agree accesses one other → (p : Pos) → In p accesses → (address byte : ℕ)
+same_byte : (image : Layout) (v : Visits) (accesses : List Pos) (one other : Pos → Pos → Type 0) → Agree accesses one other → (p : Pos) → In p accesses
+    → (address byte : ℕ)
     → IsByteBefore image v accesses one p address byte → IsByteBefore image v accesses other p address byte
 same_byte image v accesses one other agree p here address byte (inl newest) = inl (record {
   writer = newest.writer;
@@ -44,7 +45,8 @@ same_byte image v accesses one other agree p here address byte (inl newest) = in
 same_byte image v accesses one other agree p here address byte (inr none) =
     inr (λ (q : Pos) (i : In q accesses) (before : other q p). none.0 q i ((agree q p i here).1 before), none.1)
 
-same_undisturbed : (v : Visits) (accesses : List Pos) (one other : Pos → Pos → Type 0) → Agree accesses one other → (lr p : Pos) → In lr accesses → In p accesses → (address : ℕ)
+same_undisturbed : (v : Visits) (accesses : List Pos) (one other : Pos → Pos → Type 0) → Agree accesses one other → (lr p : Pos) → In lr accesses
+    → In p accesses → (address : ℕ)
     → IsUndisturbed v accesses one lr p address → IsUndisturbed v accesses other lr p address
 same_undisturbed v accesses one other agree lr p there here address quiet q i apart after before =
     quiet q i apart ((agree lr q there i).1 after) ((agree q p i here).1 before)
@@ -56,9 +58,11 @@ same_fits image given v accesses one other agree back fits p here =
     record {
       bytes = λ (i : ℕ) (less : i < read_count image (at v p)).
           same_byte image v accesses one other agree p here (byte_address (access_address image v p) i) (given.bytes p.thread p.step i) (fitting.bytes i less);
-      won = λ (lr : Pos) (address : ℕ) (e : conditional_by (conditional_in image (at v p).seen) (at v p).outcome ≡ Some address) (looks : LooksBack image v lr p).
+      won = λ (lr : Pos) (address : ℕ) (e : conditional_by (conditional_in image (at v p).seen) (at v p).outcome ≡ Some address)
+          (looks : LooksBack image v lr p).
           let there : In lr accesses = back lr p here looks in
-          let won : (given.won p.thread p.step ≡ true) ↔ ((access_address image v lr ≡ address) × IsUndisturbed v accesses one lr p (access_address image v lr)) =
+          let won : (given.won p.thread p.step ≡ true) ↔ ((access_address image v lr ≡ address) × IsUndisturbed v accesses one lr p
+          (access_address image v lr)) =
           fitting.won lr address e looks in (
             λ (w : given.won p.thread p.step ≡ true).
                 ((won.0 w).0, same_undisturbed v accesses one other agree lr p there here (access_address image v lr) (won.0 w).1),
@@ -86,14 +90,18 @@ reserved_access (instr.Op op rd rs1 rs2) n e = absurd (false≢true e)
 reserved_access (instr.Fence rd rs1 imm) n e = absurd (false≢true e)
 reserved_access instr.Ebreak n e = absurd (false≢true e)
 
-back_listed : (image : Layout) (log : Log) (walk : Walk) (given : Given) (v : Visits) (accesses : List Pos) → IsWalk image log walk → IsGuided image (told log walk) given v
+back_listed : (image : Layout) (log : Log) (walk : Walk) (given : Given) (v : Visits) (accesses : List Pos) → IsWalk image log walk
+    → IsGuided image (told log walk) given v
     → Lists (IsAccess log walk) accesses → (lr p : Pos) → In p accesses → LooksBack image v lr p → In lr accesses
 back_listed image log walk given v accesses is guided lists lr p here back =
     let place : IsPlace (told log walk) p = counted_is_place image log walk is p (lists.only p here).0 in
     let counted : Counted log lr =
     subst (λ (t : ℕ). Counted log (step_of t lr.step)) (sym back.thread) (counted_before image log walk is p place lr.step back.earlier) in
-    lists.all lr
-    (counted, reserved_access (instr_of_step walk lr) (noted (told log walk) lr) (sym (reserves_at image log walk given v is guided lr counted) ∙ back.reserves))
+    lists.all lr (
+      counted,
+      reserved_access (instr_of_step walk lr) (noted (told log walk) lr)
+          (sym (reserves_at image log walk given v is guided lr counted) ∙ back.reserves),
+    )
 
 pub decided_fits_law : DecidedFits
 decided_fits_law image log walk given v pairs schedule accesses before is fit guided woven lists agree =
@@ -102,5 +110,6 @@ decided_fits_law image log walk given v pairs schedule accesses before is fit gu
     let back : (lr p : Pos) → In p accesses → LooksBack image v lr p → In lr accesses = back_listed image log walk given v accesses is guided lists in (
       λ (f : Fits image given v schedule). same_fits image given v accesses (Stands (places schedule)) (holds before) agree back (fits.0 f),
       λ (f : FitsOrder image given v accesses (holds before)).
-          fits.1 (same_fits image given v accesses (holds before) (Stands (places schedule)) (turned accesses (Stands (places schedule)) (holds before) agree) back f),
+          fits.1 (same_fits image given v accesses (holds before) (Stands (places schedule))
+          (turned accesses (Stands (places schedule)) (holds before) agree) back f),
     )

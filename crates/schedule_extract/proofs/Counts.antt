@@ -35,7 +35,8 @@ no_exit log fit r last stays p exit =
 
 -- ---- at most eight threads
 
-spawned_few : (calls : Calls) (child : ℕ) → (b : Bool) → record no_reply { child = if b && nat_lt (made calls) 8 then Some (made calls) else None } ≡ record no_reply { child = Some child }
+spawned_few : (calls : Calls) (child : ℕ) → (b : Bool)
+    → record no_reply { child = if b && nat_lt (made calls) 8 then Some (made calls) else None } ≡ record no_reply { child = Some child }
     → made calls < 8
 spawned_few calls child false e = absurd (none-some child (ap (λ (r : Reply). r.child) e))
 spawned_few calls child true e = by_test (nat_lt (made calls) 8) refl (ap (λ (r : Reply). r.child) e) where

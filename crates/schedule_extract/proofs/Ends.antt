@@ -26,14 +26,19 @@ abbrev pub exiting : Option Pos → List ℕ
 exiting exit = option_to_list (option_map (λ p. p.thread) exit)
 
 -- as often as it exits, the exit's thread has gone up to it
-exit_step : (log : Log) (pairs : List (Pos × Pos)) (exit : Option Pos) (schedule : List ℕ) (p : Pos) → Scene log pairs exit → IsGoing log pairs exit schedule → exit ≡ Some p
+exit_step : (log : Log) (pairs : List (Pos × Pos)) (exit : Option Pos) (schedule : List ℕ) (p : Pos) → Scene log pairs exit
+    → IsGoing log pairs exit schedule → exit ≡ Some p
     → p.step ≡ times p.thread schedule
 exit_step log pairs exit schedule p scene going e =
     let n : ℕ = times p.thread schedule in
     let last : p.step + 1 ≡ (logged log p.thread).steps = scene.ends p (exit_by_scene log pairs exit p scene e) in
     elim (cases_lt n p.step) [
       | inl less ↦ (let q : Pos = record { thread = p.thread; step = n } in
-          let goes : Goes log exit q = (omega (arith, less, last), λ (f : exit ≡ Some q). absurd (let same : p.step ≡ n = ap (λ (x : Pos). x.step) (same_Some p q (sym e ∙ f)) in omega (arith, less, same))) in
+          let goes : Goes log exit q = (
+            omega (arith, less, last),
+            λ (f : exit ≡ Some q). absurd
+                (let same : p.step ≡ n = ap (λ (x : Pos). x.step) (same_Some p q (sym e ∙ f)) in omega (arith, less, same)),
+          ) in
           let below : n < 0 + n = place_below [] schedule q (going.all q goes) in
           absurd (omega (arith, below)))
       | inr le ↦ elim (cases_lt p.step n) [
@@ -42,7 +47,8 @@ exit_step log pairs exit schedule p scene going e =
       ]
     ]
 
-places_exit : (log : Log) (pairs : List (Pos × Pos)) (exit : Option Pos) (schedule : List ℕ) → Scene log pairs exit → IsGoing log pairs exit schedule → (o : Option Pos) → exit ≡ o
+places_exit : (log : Log) (pairs : List (Pos × Pos)) (exit : Option Pos) (schedule : List ℕ) → Scene log pairs exit → IsGoing log pairs exit schedule
+    → (o : Option Pos) → exit ≡ o
     → places (schedule ++ exiting o) ≡ places schedule ++ option_to_list o
 places_exit log pairs exit schedule scene going None e = ap places (append-nil schedule) ∙ sym (append-nil (places schedule))
 places_exit log pairs exit schedule scene going (Some p) e = places_more schedule p.thread p refl (exit_step log pairs exit schedule p scene going e)
@@ -56,7 +62,8 @@ record IsWhole (log : Log) (pairs : List (Pos × Pos)) (exit : Option Pos) (step
   pub follows : Follows log pairs steps
   pub last : (q p : Pos) → exit ≡ Some p → In q steps → (q ≡ p → ⊥) → Stands steps q p
 
-whole : (log : Log) (pairs : List (Pos × Pos)) (exit : Option Pos) (steps : List Pos) → Scene log pairs exit → ((p : Pos) → Goes log exit p → In p steps) → ((p : Pos) → In p steps → Goes log exit p)
+whole : (log : Log) (pairs : List (Pos × Pos)) (exit : Option Pos) (steps : List Pos) → Scene log pairs exit → ((p : Pos) → Goes log exit p → In p steps)
+    → ((p : Pos) → In p steps → Goes log exit p)
     → Follows log pairs steps → (o : Option Pos) → exit ≡ o → IsWhole log pairs exit (steps ++ option_to_list o)
 whole log pairs exit steps scene all only follows None e = subst (IsWhole log pairs exit) (sym (append-nil steps)) (record {
   all = λ (p : Pos) (counted : Counted log p). all p (counted, λ (f : exit ≡ Some p). none-some p (sym e ∙ f));
@@ -72,7 +79,8 @@ whole log pairs exit steps scene all only follows (Some x) e = record {
   only = λ (p : Pos) (i : In p (steps ++ x ∷ [])). elim (in-append p steps (x ∷ []) i) [
     | inl j ↦ (only p j).0
     | inr j ↦ elim j [
-      | inl same ↦ subst (Counted log) same (let last : x.step + 1 ≡ (logged log x.thread).steps = scene.ends x (exit_by_scene log pairs exit x scene e) in omega (arith, last))
+      | inl same ↦ subst (Counted log) same (let last : x.step + 1 ≡ (logged log x.thread).steps = scene.ends x (exit_by_scene log pairs exit x scene e) in
+          omega (arith, last))
       | inr none ↦ absurd none
     ]
   ];
@@ -87,22 +95,27 @@ whole log pairs exit steps scene all only follows (Some x) e = record {
   ];
 }
 
-times_counted : (log : Log) (counted : List ℕ) → ((p : Pos) → Counted log p → In p (places counted)) → ((p : Pos) → In p (places counted) → Counted log p) → (t : ℕ)
+times_counted : (log : Log) (counted : List ℕ) → ((p : Pos) → Counted log p → In p (places counted)) → ((p : Pos) → In p (places counted) → Counted log p)
+    → (t : ℕ)
     → times t counted ≡ (logged log t).steps
 times_counted log counted all only t =
     let n : ℕ = times t counted in
     let m : ℕ = (logged log t).steps in
     elim (cases_lt n m) [
-      | inl less ↦ (let below : n < 0 + n = place_below [] counted (record { thread = t; step = n }) (all (record { thread = t; step = n }) less) in absurd (omega (arith, below)))
+      | inl less ↦ (let below : n < 0 + n = place_below [] counted (record { thread = t; step = n }) (all (record { thread = t; step = n }) less) in
+          absurd (omega (arith, below)))
       | inr le ↦ elim (cases_lt m n) [
-        | inl more ↦ (let there : m < m = only (record { thread = t; step = m }) (place_in [] counted (record { thread = t; step = m }) (omega arith) (omega (arith, more))) in absurd (omega (arith, there)))
+        | inl more ↦ (let there : m < m =
+            only (record { thread = t; step = m }) (place_in [] counted (record { thread = t; step = m }) (omega arith) (omega (arith, more))) in
+            absurd (omega (arith, there)))
         | inr ge ↦ omega (arith, le, ge)
       ]
     ]
 
 -- ---- an exit is last
 
-last_by : (log : Log) (pairs : List (Pos × Pos)) (exit : Option Pos) (steps : List Pos) → Scene log pairs exit → Distinct steps → IsWhole log pairs exit steps → (o : Option Pos) → exit ≡ o
+last_by : (log : Log) (pairs : List (Pos × Pos)) (exit : Option Pos) (steps : List Pos) → Scene log pairs exit → Distinct steps
+    → IsWhole log pairs exit steps → (o : Option Pos) → exit ≡ o
     → ExitLast log steps
 last_by log pairs exit steps scene once is None e = no_exits_last log steps (subst (IsExitOf log) e scene.exit_is)
 last_by log pairs exit steps scene once is (Some x) e =
@@ -130,24 +143,29 @@ woven_by log pairs exit schedule scene going =
       counted = counted;
       whole = refl;
       steps = many;
-      recorded = keeps_standing (RecordedOrder log) steps once (λ (p q : Pos) (i : In p steps) (j : In q steps) (order : RecordedOrder log p q). is.follows p q (inl order) j);
+      recorded = keeps_standing (RecordedOrder log) steps once (λ (p q : Pos) (i : In p steps) (j : In q steps)
+          (order : RecordedOrder log p q). is.follows p q (inl order) j);
       paired = λ (p q : Pos) (pair : Contains pairs (p, q)). is.follows p q (inr pair) (is.all q (scene.counted p q pair).1);
       exit_last = subst (ExitLast log) (sym with_fault) (exit_last_by log steps log.end scene.fit refl (last_by log pairs exit steps scene once is exit refl));
     }
 
 -- ---- the same pairs in another list
 
-same_precedes : (log : Log) (pairs others : List (Pos × Pos)) → ((pair : Pos × Pos) → Contains others pair ↔ Contains pairs pair) → (p q : Pos) → Precedes log others p q → Precedes log pairs p q
+same_precedes : (log : Log) (pairs others : List (Pos × Pos)) → ((pair : Pos × Pos) → Contains others pair ↔ Contains pairs pair) → (p q : Pos)
+    → Precedes log others p q → Precedes log pairs p q
 same_precedes log pairs others same p q (inl order) = inl order
 same_precedes log pairs others same p q (inr pair) = inr ((same (p, q)).0 pair)
 
-pub same_counted : (log : Log) (pairs others : List (Pos × Pos)) → ((pair : Pos × Pos) → Contains others pair ↔ Contains pairs pair) → PairsCounted log pairs → PairsCounted log others
+pub same_counted : (log : Log) (pairs others : List (Pos × Pos)) → ((pair : Pos × Pos) → Contains others pair ↔ Contains pairs pair)
+    → PairsCounted log pairs → PairsCounted log others
 same_counted log pairs others same counted p q pair = counted p q ((same (p, q)).0 pair)
 
-pub same_go_on : (log : Log) (pairs others : List (Pos × Pos)) → ((pair : Pos × Pos) → Contains others pair ↔ Contains pairs pair) → PairsGoOn log pairs → PairsGoOn log others
+pub same_go_on : (log : Log) (pairs others : List (Pos × Pos)) → ((pair : Pos × Pos) → Contains others pair ↔ Contains pairs pair) → PairsGoOn log pairs
+    → PairsGoOn log others
 same_go_on log pairs others same go_on p q pair = go_on p q ((same (p, q)).0 pair)
 
-pub same_ring : (log : Log) (pairs others : List (Pos × Pos)) → ((pair : Pos × Pos) → Contains others pair ↔ Contains pairs pair) → NoRing log pairs → NoRing log others
+pub same_ring : (log : Log) (pairs others : List (Pos × Pos)) → ((pair : Pos × Pos) → Contains others pair ↔ Contains pairs pair) → NoRing log pairs
+    → NoRing log others
 same_ring log pairs others same ring = record {
   before = ring.before;
   strict = ring.strict;
@@ -155,7 +173,8 @@ same_ring log pairs others same ring = record {
   has = λ (p q : Pos) (precedes : Precedes log others p q). ring.has p q (same_precedes log pairs others same p q precedes);
 }
 
-pub same_woven : (log : Log) (pairs others : List (Pos × Pos)) (schedule : List ℕ) → ((pair : Pos × Pos) → Contains others pair ↔ Contains pairs pair) → Woven log others schedule
+pub same_woven : (log : Log) (pairs others : List (Pos × Pos)) (schedule : List ℕ) → ((pair : Pos × Pos) → Contains others pair ↔ Contains pairs pair)
+    → Woven log others schedule
     → Woven log pairs schedule
 same_woven log pairs others schedule same woven = record {
   counted = woven.counted;

@@ -9,7 +9,8 @@ use Rattle.odr_log.specs.declared.log.Pos.{Pos}
 use Rattle.schedule_extract.specs.Going.{IsTaken, head}
 use Rattle.schedule_extract.specs.Marks.{IsPassed, ArePassed, AllPassed}
 
-pub passed_more : (pairs : List (Pos × Pos)) (next : List ℕ) (at : Pos) (mark : ℕ) (x : Pos × Pos) → mark < length pairs → x ≡ get_or pairs mark x → IsPassed next at x
+pub passed_more : (pairs : List (Pos × Pos)) (next : List ℕ) (at : Pos) (mark : ℕ) (x : Pos × Pos) → mark < length pairs → x ≡ get_or pairs mark x
+    → IsPassed next at x
     → ArePassed pairs next at mark → ArePassed pairs next at (mark + 1)
 passed_more pairs next at mark x within is passed so_far k d less = elim (cases_lt k mark) [
   | inl below ↦ so_far k d below
@@ -40,7 +41,11 @@ all_taken pairs next at mark sorted passed first d other p has =
       | inr past ↦ (let within : mark < length pairs = omega (arith, past, has.1) in
           let up : (get_or pairs mark pair).1.step ≤ (get_or pairs has.0 pair).1.step = sorted mark has.0 pair past has.1 in
           let at_most : (get_or pairs mark pair).1.step ≤ at.step = subst (λ (x : Pos × Pos). (get_or pairs mark pair).1.step ≤ x.1.step) is up in
-          absurd (first_of pairs next at mark pair within first (at_most, λ (e : (get_or pairs mark pair).1 ≡ at). absurd (other within (ap (λ (x : Pos × Pos). x.1) (get_or_default pairs mark d pair within) ∙ e)))))
+          absurd (first_of pairs next at mark pair within first (
+            at_most,
+            λ (e : (get_or pairs mark pair).1 ≡ at). absurd
+                (other within (ap (λ (x : Pos × Pos). x.1) (get_or_default pairs mark d pair within) ∙ e)),
+          )))
     ]
 
 -- ---- of all threads
@@ -48,7 +53,8 @@ all_taken pairs next at mark sorted passed first d other p has =
 pub none_passed : (pairs : List (Pos × Pos)) (next marks : List ℕ) → ((t : ℕ) → t < 256 → get_or marks t 0 ≡ 0) → AllPassed pairs next marks
 none_passed pairs next marks zeros t room k d less = absurd (omega (arith, less, zeros t room))
 
-pub mark_moves : (pairs : List (Pos × Pos)) (next marks : List ℕ) (t mark : ℕ) → t < length marks → ArePassed pairs next (head next t) mark → AllPassed pairs next marks
+pub mark_moves : (pairs : List (Pos × Pos)) (next marks : List ℕ) (t mark : ℕ) → t < length marks → ArePassed pairs next (head next t) mark
+    → AllPassed pairs next marks
     → AllPassed pairs next (slice_set marks t mark)
 mark_moves pairs next marks t mark within passed all u room = elim (cases_eq u t) [
   | inl same ↦ subst (λ (v : ℕ). ArePassed pairs next (head next v) (get_or (slice_set marks t mark) v 0)) (sym same)
@@ -63,7 +69,8 @@ grows next t u within = elim (cases_eq u t) [
       ap (λ (v : ℕ). get_or (slice_set next t (get_or next t 0 + 1)) v 0) same ∙ get_or-set_same next t (get_or next t 0 + 1) 0 within in
       let f : get_or next u 0 ≡ get_or next t 0 = ap (λ (v : ℕ). get_or next v 0) same in
       omega (arith, e, f))
-  | inr ne ↦ (let e : get_or (slice_set next t (get_or next t 0 + 1)) u 0 ≡ get_or next u 0 = get_or-set_other next t u (get_or next t 0 + 1) 0 ne in omega (arith, e))
+  | inr ne ↦ (let e : get_or (slice_set next t (get_or next t 0 + 1)) u 0 ≡ get_or next u 0 = get_or-set_other next t u (get_or next t 0 + 1) 0 ne in
+      omega (arith, e))
 ]
 
 passed_on : (next later : List ℕ) (u : ℕ) (pair : Pos × Pos) → get_or next u 0 ≤ get_or later u 0 → get_or next pair.0.thread 0 ≤ get_or later pair.0.thread 0
@@ -80,4 +87,5 @@ passed_on next later u pair more first passed = (
 pub passed_step : (pairs : List (Pos × Pos)) (next marks : List ℕ) (t : ℕ) → t < length next → AllPassed pairs next marks
     → AllPassed pairs (slice_set next t (get_or next t 0 + 1)) marks
 passed_step pairs next marks t within all u room k d less =
-    passed_on next (slice_set next t (get_or next t 0 + 1)) u (get_or pairs k d) (grows next t u within) (grows next t (get_or pairs k d).0.thread within) (all u room k d less)
+    passed_on next (slice_set next t (get_or next t 0 + 1)) u (get_or pairs k d) (grows next t u within) (grows next t (get_or pairs k d).0.thread within)
+    (all u room k d less)

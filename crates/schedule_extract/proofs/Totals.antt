@@ -97,7 +97,8 @@ exits_end image log walk is p exit =
     ]
 
 -- a list of all counted steps that keeps the recorded order and has the pairs in order
-ring_by : (log : Log) (pairs : List (Pos × Pos)) (steps : List Pos) → CallsFit log → Distinct steps → ((p : Pos) → Counted log p → In p steps) → Keeps (RecordedOrder log) steps
+ring_by : (log : Log) (pairs : List (Pos × Pos)) (steps : List Pos) → CallsFit log → Distinct steps → ((p : Pos) → Counted log p → In p steps)
+    → Keeps (RecordedOrder log) steps
     → ((p q : Pos) → Contains pairs (p, q) → Stands steps p q) → NoRing log pairs
 ring_by log pairs steps fit once all keeps paired = record {
   before = stands steps;
@@ -126,7 +127,8 @@ total_woven image log walk chosen before pairs is fit counted goes_on total are 
   no_ring =
       let from : ComesFrom log chosen (holds before) = weaving_law image log walk chosen before is fit counted goes_on total in
       ring_by log pairs from.steps fit from.lists.once from.lists.all from.recorded
-      (λ (p q : Pos) (pair : Contains pairs (p, q)). let within : In p chosen × In q chosen × holds before p q = are p q pair in (from.decided p q within.0 within.1).1 within.2);
+      (λ (p q : Pos) (pair : Contains pairs (p, q)). let within : In p chosen × In q chosen × holds before p q = are p q pair in
+      (from.decided p q within.0 within.1).1 within.2);
 }
 
 -- ---- where some schedule is woven
@@ -142,13 +144,15 @@ woven_can image log walk pairs schedule is fit woven =
     let tail : List Pos = places_after (done_after [] woven.counted) (faulting log.end) in
     let whole : places schedule ≡ steps ++ tail = ap places woven.whole ∙ places-append [] woven.counted (faulting log.end) in
     let only : (p : Pos) → In p steps → Counted log p =
-    λ (p : Pos) (i : In p steps). (let below : p.step < 0 + times p.thread woven.counted = place_below [] woven.counted p i in omega (arith, below, woven.steps p.thread)) in
+    λ (p : Pos) (i : In p steps). (let below : p.step < 0 + times p.thread woven.counted = place_below [] woven.counted p i in
+    omega (arith, below, woven.steps p.thread)) in
     record {
       exits_end = exits_end image log walk is;
       counted = λ (p q : Pos) (pair : Contains pairs (p, q)).
           (only p (stands_first p q steps (woven.paired p q pair)), only q (stands_second p q steps (woven.paired p q pair)));
       go_on = λ (p q : Pos) (pair : Contains pairs (p, q)) (exit : IsExit log p).
-          nothing_after log (places schedule) p q woven.exit_last exit (subst (λ (xs : List Pos). Stands xs p q) (sym whole) (stands_left p q steps tail (woven.paired p q pair)));
+          nothing_after log (places schedule) p q woven.exit_last exit (subst (λ (xs : List Pos). Stands xs p q) (sym whole)
+          (stands_left p q steps tail (woven.paired p q pair)));
       no_ring =
           ring_by log pairs steps fit (distinct_places [] woven.counted)
           (λ (p : Pos) (c : Counted log p). place_in [] woven.counted p (omega arith) (omega (arith, c, woven.steps p.thread))) woven.recorded woven.paired;
@@ -156,7 +160,8 @@ woven_can image log walk pairs schedule is fit woven =
 
 -- ---- woven schedules keep the order
 
-stands_woven : (log : Log) (pairs : List (Pos × Pos)) (schedule : List ℕ) → CallsFit log → (woven : Woven log pairs schedule) → (p q : Pos) → Counted log p → Counted log q
+stands_woven : (log : Log) (pairs : List (Pos × Pos)) (schedule : List ℕ) → CallsFit log → (woven : Woven log pairs schedule) → (p q : Pos) → Counted log p
+    → Counted log q
     → Precedes log pairs p q → Stands (places woven.counted) p q
 stands_woven log pairs schedule fit woven p q i j (inl order) =
     let there : (x : Pos) → Counted log x → In x (places woven.counted) =
@@ -176,9 +181,10 @@ woven_keeps log chosen before pairs schedule fit counted total has woven p q i j
     λ (x y : Pos) (k : In x chosen) (l : In y chosen) (e : holds before x y).
     subst (λ (xs : List Pos). Stands xs x y) (sym whole)
     (stands_left x y (places woven.counted) tail (stands_woven log pairs schedule fit woven x y (counted x k) (counted y l) (has x y k l e))) in (
-      λ (s : Decides schedule p q). elim (total.total p q i j (λ (e : p ≡ q). stands_once p (places schedule) once (subst (Stands (places schedule) p) (sym e) s))) [
-        | inl e ↦ e
-        | inr back ↦ absurd (stands_once p (places schedule) once (stands_then p q p (places schedule) once s (up q p j i back)))
-      ],
+      λ (s : Decides schedule p q). elim (total.total p q i j (λ (e : p ≡ q). stands_once p (places schedule) once
+          (subst (Stands (places schedule) p) (sym e) s))) [
+            | inl e ↦ e
+            | inr back ↦ absurd (stands_once p (places schedule) once (stands_then p q p (places schedule) once s (up q p j i back)))
+          ],
       λ (e : holds before p q). up p q i j e,
     )

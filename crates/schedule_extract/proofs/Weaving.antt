@@ -34,7 +34,8 @@ pub record Scene (log : Log) (pairs : List (Pos × Pos)) (exit : Option Pos) : T
   pub go_on : PairsGoOn log pairs
   pub ring : NoRing log pairs
 
-pub precedes_counted : (log : Log) (pairs : List (Pos × Pos)) (exit : Option Pos) (p q : Pos) → Scene log pairs exit → Precedes log pairs p q → Counted log p × Counted log q
+pub precedes_counted : (log : Log) (pairs : List (Pos × Pos)) (exit : Option Pos) (p q : Pos) → Scene log pairs exit → Precedes log pairs p q
+    → Counted log p × Counted log q
 precedes_counted log pairs exit p q scene (inl order) = (from_counted log p q order, to_counted log p q order)
 precedes_counted log pairs exit p q scene (inr pair) = scene.counted p q pair
 
@@ -82,7 +83,8 @@ exit_edge log fit ends p q exit edge e = by_edge e where
 
 pub exit_ends_all : (log : Log) (pairs : List (Pos × Pos)) (exit : Option Pos) (p q : Pos) → Scene log pairs exit → exit ≡ Some p → Precedes log pairs p q → ⊥
 exit_ends_all log pairs exit p q scene e (inl (One edge)) = exit_edge log scene.fit scene.ends p q (exit_by_scene log pairs exit p scene e) edge edge.edge
-exit_ends_all log pairs exit p q scene e (inl (More {q = x} edge rest)) = exit_edge log scene.fit scene.ends p x (exit_by_scene log pairs exit p scene e) edge edge.edge
+exit_ends_all log pairs exit p q scene e (inl (More {q = x} edge rest)) =
+    exit_edge log scene.fit scene.ends p x (exit_by_scene log pairs exit p scene e) edge edge.edge
 exit_ends_all log pairs exit p q scene e (inr pair) = scene.go_on p q pair (exit_by_scene log pairs exit p scene e)
 
 -- ---- steps that go
@@ -113,18 +115,21 @@ goes_or log exit p = elim (cases_lt p.step (logged log p.thread).steps) [
 ]
 
 -- the next step of a thread with a step that goes and was not taken
-head_goes : (log : Log) (pairs : List (Pos × Pos)) (exit : Option Pos) (next : List ℕ) (p : Pos) → Scene log pairs exit → Goes log exit p → get_or next p.thread 0 ≤ p.step
+head_goes : (log : Log) (pairs : List (Pos × Pos)) (exit : Option Pos) (next : List ℕ) (p : Pos) → Scene log pairs exit → Goes log exit p
+    → get_or next p.thread 0 ≤ p.step
     → Goes log exit (head next p.thread)
 head_goes log pairs exit next p scene goes past =
     let counted : p.step < (logged log p.thread).steps = goes.0 in (
       omega (arith, past, counted),
       λ (e : exit ≡ Some (head next p.thread)).
-          let last : get_or next p.thread 0 + 1 ≡ (logged log p.thread).steps = scene.ends (head next p.thread) (exit_by_scene log pairs exit (head next p.thread) scene e) in
+          let last : get_or next p.thread 0 + 1 ≡ (logged log p.thread).steps =
+          scene.ends (head next p.thread) (exit_by_scene log pairs exit (head next p.thread) scene e) in
           let at : p.step ≡ get_or next p.thread 0 = omega (arith, past, last, counted) in
           goes.1 (e ∙ ap (λ (y : Pos). Some y) (same_pos (head next p.thread) p refl at)),
     )
 
-head_before : (log : Log) (pairs : List (Pos × Pos)) (exit : Option Pos) (next : List ℕ) (p q : Pos) → (scene : Scene log pairs exit) → Precedes log pairs p q → get_or next p.thread 0 ≤ p.step
+head_before : (log : Log) (pairs : List (Pos × Pos)) (exit : Option Pos) (next : List ℕ) (p q : Pos) → (scene : Scene log pairs exit)
+    → Precedes log pairs p q → get_or next p.thread 0 ≤ p.step
     → holds scene.ring.before (head next p.thread) q
 head_before log pairs exit next p q scene precedes past =
     let counted : Counted log p × Counted log q = precedes_counted log pairs exit p q scene precedes in
@@ -151,8 +156,17 @@ stuck_earlier log pairs exit next scene stuck t goes =
     let p : Pos = first.0 in
     let precedes : Precedes log pairs p (head next t) = first.1.0 in
     let past : get_or next p.thread 0 ≤ p.step = first.1.1 in
-    let on : Goes log exit p = ((precedes_counted log pairs exit p (head next t) scene precedes).0, λ (e : exit ≡ Some p). exit_ends_all log pairs exit p (head next t) scene e precedes) in
-    record { thread = p.thread; goes = head_goes log pairs exit next p scene on past; earlier = head_before log pairs exit next p (head next t) scene precedes past }
+    let on : Goes log exit p = (
+      (precedes_counted log pairs exit p (head next t) scene precedes).0,
+      λ (e : exit ≡ Some p). exit_ends_all log pairs exit p
+          (head next t) scene e precedes,
+    ) in
+    record {
+      thread = p.thread;
+      goes = head_goes log pairs exit next p scene on past;
+      earlier =
+          head_before log pairs exit next p (head next t) scene precedes past;
+    }
 
 -- of the first n threads
 record IsFirst (log : Log) (exit : Option Pos) (next : List ℕ) (before : Pos → Pos → Bool) (n : ℕ) : Type 0 where
@@ -170,33 +184,38 @@ first_more log pairs exit next scene n goes first = elim (bool_or (scene.ring.be
   | inl less ↦ record {
     thread = n;
     goes = goes;
-    first = λ (t : ℕ) (within : t < suc n) (on : Goes log exit (head next t)) (earlier : holds scene.ring.before (head next t) (head next n)). elim (cases_lt t n) [
-      | inl below ↦ first.first t below on (scene.ring.transitive (head next t) (head next n) (head next first.thread) on.0 goes.0 first.goes.0 earlier less)
-      | inr past ↦ (let same : t ≡ n = omega (arith, within, past) in
-          scene.ring.strict (head next n) goes.0 (subst (λ (u : ℕ). holds scene.ring.before (head next u) (head next n)) same earlier))
-    ];
+    first = λ (t : ℕ) (within : t < suc n) (on : Goes log exit (head next t)) (earlier : holds scene.ring.before (head next t) (head next n)). elim
+        (cases_lt t n) [
+          | inl below ↦ first.first t below on
+              (scene.ring.transitive (head next t) (head next n) (head next first.thread) on.0 goes.0 first.goes.0 earlier less)
+          | inr past ↦ (let same : t ≡ n = omega (arith, within, past) in
+              scene.ring.strict (head next n) goes.0 (subst (λ (u : ℕ). holds scene.ring.before (head next u) (head next n)) same earlier))
+        ];
   }
   | inr more ↦ record {
     thread = first.thread;
     goes = first.goes;
-    first = λ (t : ℕ) (within : t < suc n) (on : Goes log exit (head next t)) (earlier : holds scene.ring.before (head next t) (head next first.thread)). elim (cases_lt t n) [
-      | inl below ↦ first.first t below on earlier
-      | inr past ↦ (let same : t ≡ n = omega (arith, within, past) in
-          more (subst (λ (u : ℕ). holds scene.ring.before (head next u) (head next first.thread)) same earlier))
-    ];
+    first = λ (t : ℕ) (within : t < suc n) (on : Goes log exit (head next t))
+        (earlier : holds scene.ring.before (head next t) (head next first.thread)). elim (cases_lt t n) [
+          | inl below ↦ first.first t below on earlier
+          | inr past ↦ (let same : t ≡ n = omega (arith, within, past) in
+              more (subst (λ (u : ℕ). holds scene.ring.before (head next u) (head next first.thread)) same earlier))
+        ];
   }
 ]
 
-first_alone : (log : Log) (pairs : List (Pos × Pos)) (exit : Option Pos) (next : List ℕ) → (scene : Scene log pairs exit) → (n : ℕ) → Goes log exit (head next n)
+first_alone : (log : Log) (pairs : List (Pos × Pos)) (exit : Option Pos) (next : List ℕ) → (scene : Scene log pairs exit) → (n : ℕ)
+    → Goes log exit (head next n)
     → ((t : ℕ) → t < n → Goes log exit (head next t) → ⊥) → IsFirst log exit next scene.ring.before (suc n)
 first_alone log pairs exit next scene n goes none = record {
   thread = n;
   goes = goes;
-  first = λ (t : ℕ) (within : t < suc n) (on : Goes log exit (head next t)) (earlier : holds scene.ring.before (head next t) (head next n)). elim (cases_lt t n) [
-    | inl below ↦ none t below on
-    | inr past ↦ (let same : t ≡ n = omega (arith, within, past) in
-        scene.ring.strict (head next n) goes.0 (subst (λ (u : ℕ). holds scene.ring.before (head next u) (head next n)) same earlier))
-  ];
+  first = λ (t : ℕ) (within : t < suc n) (on : Goes log exit (head next t)) (earlier : holds scene.ring.before (head next t) (head next n)). elim
+      (cases_lt t n) [
+        | inl below ↦ none t below on
+        | inr past ↦ (let same : t ≡ n = omega (arith, within, past) in
+            scene.ring.strict (head next n) goes.0 (subst (λ (u : ℕ). holds scene.ring.before (head next u) (head next n)) same earlier))
+      ];
 }
 
 none_more : (log : Log) (exit : Option Pos) (next : List ℕ) (n : ℕ) → (Goes log exit (head next n) → ⊥) → ((t : ℕ) → t < n → Goes log exit (head next t) → ⊥)
@@ -219,10 +238,11 @@ none_or_first log pairs exit next scene (suc n) = elim (none_or_first log pairs 
     | inr stays ↦ inr (record {
       thread = first.thread;
       goes = first.goes;
-      first = λ (t : ℕ) (within : t < suc n) (on : Goes log exit (head next t)) (earlier : holds scene.ring.before (head next t) (head next first.thread)). elim (cases_lt t n) [
-        | inl below ↦ first.first t below on earlier
-        | inr past ↦ (let same : t ≡ n = omega (arith, within, past) in stays (subst (λ (u : ℕ). Goes log exit (head next u)) same on))
-      ];
+      first = λ (t : ℕ) (within : t < suc n) (on : Goes log exit (head next t))
+          (earlier : holds scene.ring.before (head next t) (head next first.thread)). elim (cases_lt t n) [
+            | inl below ↦ first.first t below on earlier
+            | inr past ↦ (let same : t ≡ n = omega (arith, within, past) in stays (subst (λ (u : ℕ). Goes log exit (head next u)) same on))
+          ];
     })
   ]
 ]
@@ -250,7 +270,8 @@ zeros n t = elim (cases_lt t n) [
   | inr past ↦ get_or_past (replicate {A = ℕ} n 0) t 0 (omega (arith, past, length-replicate {A = ℕ} n 0))
 ]
 
-pub none_woven : (log : Log) (pairs : List (Pos × Pos)) (exit : Option Pos) (schedule : List ℕ) → schedule ≡ [] → IsWeaving log pairs exit (replicate {A = ℕ} 256 0) schedule
+pub none_woven : (log : Log) (pairs : List (Pos × Pos)) (exit : Option Pos) (schedule : List ℕ) → schedule ≡ []
+    → IsWeaving log pairs exit (replicate {A = ℕ} 256 0) schedule
 none_woven log pairs exit schedule is = subst (IsWeaving log pairs exit (replicate {A = ℕ} 256 0)) (sym is) (record {
   long = length-replicate {A = ℕ} 256 0;
   counts = zeros 256;
@@ -262,17 +283,20 @@ none_woven log pairs exit schedule is = subst (IsWeaving log pairs exit (replica
 pub places_more : (schedule : List ℕ) (t : ℕ) (p : Pos) → p.thread ≡ t → p.step ≡ times t schedule → places (schedule ++ t ∷ []) ≡ places schedule ++ p ∷ []
 places_more schedule t p thread step =
     let at : next_of t (done_after [] schedule) ≡ p =
-    same_pos (next_of t (done_after [] schedule)) p thread (step ∙ sym (counted_after t [] schedule ∙ (let e : 0 + times t schedule ≡ times t schedule = omega arith in e))) in
+    same_pos (next_of t (done_after [] schedule)) p thread (step
+    ∙ sym (counted_after t [] schedule ∙ (let e : 0 + times t schedule ≡ times t schedule = omega arith in e))) in
     places-append [] schedule (t ∷ []) ∙ ap (λ (q : Pos). places schedule ++ q ∷ []) at
 
 -- one more step at the end
-pub goes_with : (log : Log) (exit : Option Pos) (steps : List Pos) (x : Pos) → ((p : Pos) → In p steps → Goes log exit p) → Goes log exit x → (p : Pos) → In p (steps ++ x ∷ []) → Goes log exit p
+pub goes_with : (log : Log) (exit : Option Pos) (steps : List Pos) (x : Pos) → ((p : Pos) → In p steps → Goes log exit p) → Goes log exit x → (p : Pos)
+    → In p (steps ++ x ∷ []) → Goes log exit p
 goes_with log exit steps x all goes p i = elim (in-append p steps (x ∷ []) i) [
   | inl j ↦ all p j
   | inr j ↦ elim j [ inl e ↦ subst (Goes log exit) e goes | inr none ↦ absurd none ]
 ]
 
-pub follows_with : (log : Log) (pairs : List (Pos × Pos)) (steps : List Pos) (x : Pos) → Follows log pairs steps → ((p : Pos) → Precedes log pairs p x → In p steps)
+pub follows_with : (log : Log) (pairs : List (Pos × Pos)) (steps : List Pos) (x : Pos) → Follows log pairs steps
+    → ((p : Pos) → Precedes log pairs p x → In p steps)
     → Follows log pairs (steps ++ x ∷ [])
 follows_with log pairs steps x follows all p q precedes i = elim (in-append q steps (x ∷ []) i) [
   | inl j ↦ stands_left p q steps (x ∷ []) (follows p q precedes j)
@@ -286,9 +310,11 @@ counts_more : (next schedule : List ℕ) (t : ℕ) → t < length next → ((u :
     → get_or (slice_set next t (get_or next t 0 + 1)) u 0 ≡ times u (schedule ++ t ∷ [])
 counts_more next schedule t within counts u = elim (cases_eq u t) [
   | inl same ↦ subst (λ (v : ℕ). get_or (slice_set next t (get_or next t 0 + 1)) v 0 ≡ times v (schedule ++ t ∷ [])) (sym same)
-      (get_or-set_same next t (get_or next t 0 + 1) 0 within ∙ ap (λ (k : ℕ). k + 1) (counts t) ∙ ap (λ (k : ℕ). times t schedule + k) (sym (one t)) ∙ sym (times-append t schedule (t ∷ [])))
+      (get_or-set_same next t (get_or next t 0 + 1) 0 within ∙ ap (λ (k : ℕ). k + 1) (counts t) ∙ ap (λ (k : ℕ). times t schedule + k) (sym (one t))
+      ∙ sym (times-append t schedule (t ∷ [])))
   | inr ne ↦ get_or-set_other next t u (get_or next t 0 + 1) 0 ne ∙ counts u
-      ∙ (let e : times u schedule ≡ times u schedule + 0 = omega arith in e) ∙ ap (λ (k : ℕ). times u schedule + k) (sym (other u ne)) ∙ sym (times-append u schedule (t ∷ []))
+      ∙ (let e : times u schedule ≡ times u schedule + 0 = omega arith in e) ∙ ap (λ (k : ℕ). times u schedule + k) (sym (other u ne))
+      ∙ sym (times-append u schedule (t ∷ []))
 ] where
   one : (v : ℕ) → times v (v ∷ []) ≡ 1
   one v = ap (λ (b : Bool). cond b 1 0) (eq-eqb v v refl)
@@ -296,7 +322,8 @@ counts_more next schedule t within counts u = elim (cases_eq u t) [
   other : (v : ℕ) → v ≢ t → times v (t ∷ []) ≡ 0
   other v ne = ap (λ (b : Bool). cond b 1 0) (ne_eqb t v (λ (e : t ≡ v). ne (sym e)))
 
-pub woven_more : (log : Log) (pairs : List (Pos × Pos)) (exit : Option Pos) (next schedule more : List ℕ) (t : ℕ) → t < 256 → more ≡ schedule ++ t ∷ [] → IsReady log pairs exit next t
+pub woven_more : (log : Log) (pairs : List (Pos × Pos)) (exit : Option Pos) (next schedule more : List ℕ) (t : ℕ) → t < 256 → more ≡ schedule ++ t ∷ []
+    → IsReady log pairs exit next t
     → IsWeaving log pairs exit next schedule → IsWeaving log pairs exit (slice_set next t (get_or next t 0 + 1)) more
 woven_more log pairs exit next schedule more t room is ready so_far =
     let at : Pos = head next t in
@@ -308,7 +335,8 @@ woven_more log pairs exit next schedule more t room is ready so_far =
       goes = subst (λ (xs : List Pos). (p : Pos) → In p xs → Goes log exit p) (sym list) (goes_with log exit (places schedule) at so_far.goes ready.0);
       follows = subst (Follows log pairs) (sym list)
           (follows_with log pairs (places schedule) at so_far.follows (λ (p : Pos) (precedes : Precedes log pairs p at).
-          place_in [] schedule p (omega arith) (let less : p.step < get_or next p.thread 0 = ready.1 p precedes in omega (arith, less, so_far.counts p.thread))));
+          place_in [] schedule p (omega arith) (let less : p.step < get_or next p.thread 0 = ready.1 p precedes in
+          omega (arith, less, so_far.counts p.thread))));
     })
 
 -- ---- the end
@@ -343,13 +371,15 @@ pub left_less : (log : Log) (next : List ℕ) (t n : ℕ) → t < length next �
 left_less log next t zero within goes less = absurd (omega (arith, less))
 left_less log next t (suc n) within goes less = elim (cases_lt t n) [
   | inl below ↦ (let rest : left log (slice_set next t (get_or next t 0 + 1)) n < left log next n = left_less log next t n within goes below in
-      let other : get_or (slice_set next t (get_or next t 0 + 1)) n 0 ≡ get_or next n 0 = get_or-set_other next t n (get_or next t 0 + 1) 0 (λ (e : n ≡ t). omega (arith, e, below)) in
+      let other : get_or (slice_set next t (get_or next t 0 + 1)) n 0 ≡ get_or next n 0 =
+      get_or-set_other next t n (get_or next t 0 + 1) 0 (λ (e : n ≡ t). omega (arith, e, below)) in
       omega (arith, rest, ap (λ (m : ℕ). (logged log n).steps - m) other))
   | inr past ↦ (let same : t ≡ n = omega (arith, less, past) in
       subst (λ (m : ℕ). left log (slice_set next t (get_or next t 0 + 1)) (suc m) < left log next (suc m)) same
       (let rest : left log (slice_set next t (get_or next t 0 + 1)) t ≡ left log next t = left_same log next t (get_or next t 0 + 1) t (omega arith) in
       let one : get_or (slice_set next t (get_or next t 0 + 1)) t 0 ≡ get_or next t 0 + 1 = get_or-set_same next t (get_or next t 0 + 1) 0 within in
-      less_by (left log (slice_set next t (get_or next t 0 + 1)) t) (left log next t) (logged log t).steps (get_or next t 0) (get_or (slice_set next t (get_or next t 0 + 1)) t 0) rest one goes))
+      less_by (left log (slice_set next t (get_or next t 0 + 1)) t) (left log next t) (logged log t).steps (get_or next t 0)
+      (get_or (slice_set next t (get_or next t 0 + 1)) t 0) rest one goes))
 ] where
   less_by : (a b s k m : ℕ) → a ≡ b → m ≡ k + 1 → k < s → a + (s - m) < b + (s - k)
   less_by a b s k m e f g = omega (arith, e, f, g)

@@ -41,7 +41,8 @@ items_all P pairs n all each p q has =
     subst P has.2 (each has.0 pair (omega (arith, less, all)))
 
 pub exits_end_by : (log : Log) (n : ℕ) → length log.calls ≤ n
-    → ((k : ℕ) (r : CallRec) → k < n → slice_get log.calls k ≡ Some r → (code : ℕ) → r.call ≡ call.Exit code → r.at + 1 ≡ (logged log r.tid).steps) → ExitsEnd log
+    → ((k : ℕ) (r : CallRec) → k < n → slice_get log.calls k ≡ Some r → (code : ℕ) → r.call ≡ call.Exit code → r.at + 1 ≡ (logged log r.tid).steps)
+    → ExitsEnd log
 exits_end_by log n all each p exit =
     let made : CallRec = record { tid = p.thread; at = p.step; call = call.Exit exit.0 } in
     let has : Contains log.calls made = exit.1 in

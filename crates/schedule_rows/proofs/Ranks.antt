@@ -52,7 +52,8 @@ precedes_counted log pairs p q go_on (inr pair) =
     let on : (p.step + 1 < (logged log p.thread).steps) × Counted log q = go_on p q pair in
     let less : p.step + 1 < (logged log p.thread).steps = on.0 in (omega (arith, less), on.1)
 
-rank_less : (log : Log) (pairs : List (Pos × Pos)) (steps : List Pos) (p q : Pos) → ((x : Pos) → Counted log x → Contains steps x) → AreInOrder log pairs steps → AllGoOn log pairs
+rank_less : (log : Log) (pairs : List (Pos × Pos)) (steps : List Pos) (p q : Pos) → ((x : Pos) → Counted log x → Contains steps x)
+    → AreInOrder log pairs steps → AllGoOn log pairs
     → Precedes log pairs p q → rank steps p < rank steps q
 rank_less log pairs steps p q all in_order go_on precedes =
     let counted : Counted log p × Counted log q = precedes_counted log pairs p q go_on precedes in
@@ -68,7 +69,8 @@ rank_less log pairs steps p q all in_order go_on precedes =
           (subst (λ (y : Pos). Precedes log pairs p y) (sym second.1 ∙ get_or_default steps (rank steps q) q p within) precedes))))
     ]
 
-pub can_by : (log : Log) (pairs : List (Pos × Pos)) (steps : List Pos) → ((x : Pos) → Counted log x → Contains steps x) → AreInOrder log pairs steps → AllGoOn log pairs → ExitsEnd log
+pub can_by : (log : Log) (pairs : List (Pos × Pos)) (steps : List Pos) → ((x : Pos) → Counted log x → Contains steps x) → AreInOrder log pairs steps
+    → AllGoOn log pairs → ExitsEnd log
     → CanBeWoven log pairs
 can_by log pairs steps all in_order go_on ends = record {
   exits_end = ends;
@@ -81,7 +83,8 @@ can_by log pairs steps all in_order go_on ends = record {
     before = λ p q. nat_lt (rank steps p) (rank steps q);
     strict = λ (p : Pos) (counted : Counted log p) (e : nat_lt (rank steps p) (rank steps p) ≡ true).
         absurd (let less : rank steps p < rank steps p = ltb-true (rank steps p) (rank steps p) e in omega (arith, less));
-    transitive = λ (p q r : Pos) (i : Counted log p) (j : Counted log q) (k : Counted log r) (e : nat_lt (rank steps p) (rank steps q) ≡ true) (f : nat_lt (rank steps q) (rank steps r) ≡ true).
+    transitive = λ (p q r : Pos) (i : Counted log p) (j : Counted log q) (k : Counted log r) (e : nat_lt (rank steps p) (rank steps q) ≡ true)
+        (f : nat_lt (rank steps q) (rank steps r) ≡ true).
         lt-ltb (rank steps p) (rank steps r)
         (let less : rank steps p < rank steps q = ltb-true (rank steps p) (rank steps q) e in
         let more : rank steps q < rank steps r = ltb-true (rank steps q) (rank steps r) f in

@@ -27,7 +27,8 @@ loop-thread-preserved c =
     record {
       passed = passed_step c.args.pairs.now c.loop-thread.next c.find_ready.new.marks c.in-Some.thread within c.in-Some.ensures.passed;
       weaving =
-          woven_more c.args.log.now c.args.pairs.now c.args.exit c.loop-thread.next c.loop-thread.schedule _ c.in-Some.thread room c.in_ok-push.ensures c.in-Some.ensures.ready
+          woven_more c.args.log.now c.args.pairs.now c.args.exit c.loop-thread.next c.loop-thread.schedule _ c.in-Some.thread
+          room c.in_ok-push.ensures c.in-Some.ensures.ready
           c.loop-thread.invariant.weaving;
     }
 
@@ -41,4 +42,5 @@ returns c =
       go_on = c.requires.go_on;
       ring = c.requires.no_ring;
     } in
-    all_woven c.args.log.now c.args.pairs.now c.args.exit c.loop-thread.next c.loop-thread.schedule scene c.in_default.ensures.none c.loop-thread.invariant.weaving
+    all_woven c.args.log.now c.args.pairs.now c.args.exit c.loop-thread.next c.loop-thread.schedule scene
+    c.in_default.ensures.none c.loop-thread.invariant.weaving

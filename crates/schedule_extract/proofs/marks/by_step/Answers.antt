@@ -12,8 +12,10 @@ returns-clause-sorted c = IsNonDecreasingBy-from_sort_by_key (λ pair. pair.1.st
 pub returns-clause-same : goal.returns-clause-same
 returns-clause-same c =
     let moved : IsPermutation c.args.decided.now c.sort_by_key.new.self.items =
-    subst (λ (xs : List (Pos × Pos)). IsPermutation xs c.sort_by_key.new.self.items) (c.in_ok-pairs.ensures.items_if_clones_equal (λ y h k. same_pair h y k.0 k.1)) c.in_ok-sort_by_key.ensures.permutation in
+    subst (λ (xs : List (Pos × Pos)). IsPermutation xs c.sort_by_key.new.self.items)
+    (c.in_ok-pairs.ensures.items_if_clones_equal (λ y h k. same_pair h y k.0 k.1)) c.in_ok-sort_by_key.ensures.permutation in
     λ pair. (
-      λ has. Contains-permutation c.sort_by_key.new.self.items c.args.decided.now pair (IsPermutation-sym c.args.decided.now c.sort_by_key.new.self.items moved) has,
+      λ has. Contains-permutation c.sort_by_key.new.self.items c.args.decided.now pair
+          (IsPermutation-sym c.args.decided.now c.sort_by_key.new.self.items moved) has,
       λ has. Contains-permutation c.args.decided.now c.sort_by_key.new.self.items pair moved has,
     )

@@ -6,6 +6,8 @@ use Rattle.schedule_rows.proofs.fitting.is_recorded.Goals.{else-is_counted-via-t
 
 pub returns : goal.returns
 returns c = λ order. elim c.else-is_counted.branch [
-  | else-is_counted-via-then-is_counted+else-is_counted-2 w ↦ absurd (false≢true (sym w.if-is_counted-2.false ∙ w.is_counted-then-is_counted.ensures.1 (to_counted c.args.log.now c.args.first c.args.second order)))
-  | else-is_counted-via-else-is_counted w ↦ absurd (false≢true (sym w.if-is_counted.false ∙ c.is_counted.ensures.1 (from_counted c.args.log.now c.args.first c.args.second order)))
+  | else-is_counted-via-then-is_counted+else-is_counted-2 w ↦
+      absurd (false≢true (sym w.if-is_counted-2.false ∙ w.is_counted-then-is_counted.ensures.1 (to_counted c.args.log.now c.args.first c.args.second order)))
+  | else-is_counted-via-else-is_counted w ↦
+      absurd (false≢true (sym w.if-is_counted.false ∙ c.is_counted.ensures.1 (from_counted c.args.log.now c.args.first c.args.second order)))
 ]
