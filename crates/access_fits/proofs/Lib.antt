@@ -5,3 +5,4 @@ mod Reserved
 mod Won
 mod Along
 pub mod Woven
+mod Decided

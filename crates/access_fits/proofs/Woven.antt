@@ -30,10 +30,10 @@ use Rattle.walk_facts.proofs.Rights.{rights_law}
 
 -- ---- looking back
 
-counted_before : (image : Layout) (log : Log) (walk : Walk) → IsWalk image log walk → (p : Pos) → IsPlace (told log walk) p → (k : ℕ) → k < p.step → Counted log (step_of p.thread k)
+pub counted_before : (image : Layout) (log : Log) (walk : Walk) → IsWalk image log walk → (p : Pos) → IsPlace (told log walk) p → (k : ℕ) → k < p.step → Counted log (step_of p.thread k)
 counted_before image log walk is p place k less = counted_place image log walk is (step_of p.thread k) (omega (arith, less, place_few log walk p place))
 
-reserves_at : (image : Layout) (log : Log) (walk : Walk) (given : Given) (v : Visits) → IsWalk image log walk → IsGuided image (told log walk) given v
+pub reserves_at : (image : Layout) (log : Log) (walk : Walk) (given : Given) (v : Visits) → IsWalk image log walk → IsGuided image (told log walk) given v
     → (q : Pos) → Counted log q → is_reserving (instr_of image (at v q).seen) ≡ reserves (instr_of_step walk q)
 reserves_at image log walk given v is guided q counted = ap is_reserving (instr_is image log walk given v is guided q counted)
 

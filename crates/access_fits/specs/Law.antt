@@ -1,5 +1,5 @@
 -- Fitting a list of steps is fitting the order of the accesses among them.
-use Rattle.std.specs.Prelude.{◌≡◌, ◌⊎◌, ◌↔◌, ℕ, ◌<◌, List, [], Some}
+use Rattle.std.specs.Prelude.{◌≡◌, ◌⊎◌, ◌↔◌, ℕ, ◌<◌, Bool, List, [], Some}
 use Rattle.elf_image.specs.Layout.{Layout}
 use Rattle.elf_image.specs.declared.cell.Cell.{Cell}
 use Rattle.elf_image.specs.Memory.{opening_cells}
@@ -9,10 +9,12 @@ use Rattle.rv_model.specs.CallsFit.{CallsFit}
 use Rattle.rv_model.specs.Walk.{IsWalk, Walk}
 use Rattle.guided_walk.specs.Schedules.{places}
 use Rattle.guided_walk.specs.Told.{told}
+use Rattle.guided_walk.specs.Law.{holds}
 use Rattle.guided_walk.specs.Woven.{Woven}
 use Rattle.guided_walk.specs.Guided.{IsGuided, Given, Visits, at}
 use Rattle.guided_walk.specs.Orders.{In, Distinct, Lists, Stands}
 use Rattle.guided_walk.specs.Fits.{Fits, FitsAlong, byte_address, read_count}
+use Rattle.walk_orders.specs.Total.{Decides}
 use Rattle.walk_facts.specs.Links.{access_address}
 use Rattle.walk_facts.specs.Quiet.{IsQuiet}
 use Rattle.walk_facts.specs.Steps.{IsAccess}
@@ -42,3 +44,11 @@ abbrev pub WovenFits : Type 0
 WovenFits = (image : Layout) (log : Log) (walk : Walk) (given : Given) (visits : Visits) (pairs : List (Pos × Pos)) (schedule : List ℕ) (accesses : List Pos)
     → IsWalk image log walk → CallsFit log → IsGuided image (told log walk) given visits → Woven log pairs schedule → Lists (IsAccess log walk) accesses
     → Fits image given visits schedule ↔ FitsOrder image given visits accesses (Stands (places schedule))
+
+-- So of each order that the schedule decides for the accesses.
+abbrev pub DecidedFits : Type 0
+DecidedFits = (image : Layout) (log : Log) (walk : Walk) (given : Given) (visits : Visits) (pairs : List (Pos × Pos)) (schedule : List ℕ) (accesses : List Pos)
+    (before : Pos → Pos → Bool)
+    → IsWalk image log walk → CallsFit log → IsGuided image (told log walk) given visits → Woven log pairs schedule → Lists (IsAccess log walk) accesses
+    → ((p q : Pos) → In p accesses → In q accesses → Decides schedule p q ↔ holds before p q)
+    → Fits image given visits schedule ↔ FitsOrder image given visits accesses (holds before)

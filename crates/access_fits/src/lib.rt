@@ -3,4 +3,4 @@
 
 mod law;
 
-pub use law::{fits_by_order, woven_schedules_fit_by_order};
+pub use law::{fits_by_order, schedules_fit_by_decided_order, woven_schedules_fit_by_order};

@@ -246,18 +246,18 @@ count_after : (u t : ℕ) (done : List Pos) (n : ℕ) → (b : Bool) → cond b 
 count_after u t done n true = omega arith
 count_after u t done n false = omega arith
 
-counted_after : (u : ℕ) (done : List Pos) (schedule : List ℕ) → count u (done_after done schedule) ≡ count u done + times u schedule
+pub counted_after : (u : ℕ) (done : List Pos) (schedule : List ℕ) → count u (done_after done schedule) ≡ count u done + times u schedule
 counted_after u done [] = omega arith
 counted_after u done (t ∷ schedule) = counted_after u (Next t done) schedule ∙ count_after u t done (times u schedule) (nat_eq t u)
 
-fault_after : (log : Log) (counted : List ℕ) (ended : End) → ((u : ℕ) → times u counted ≡ (logged log u).steps) → places_after (done_after [] counted) (faulting ended) ≡ fault_by log ended
+pub fault_after : (log : Log) (counted : List ℕ) (ended : End) → ((u : ℕ) → times u counted ≡ (logged log u).steps) → places_after (done_after [] counted) (faulting ended) ≡ fault_by log ended
 fault_after log counted (end.Faulted t fault) steps =
     ap (λ (k : ℕ). (let p : Pos = record { thread = t; step = k } in p) ∷ []) (counted_after t [] counted ∙ (let e : 0 + times t counted ≡ times t counted = omega arith in e) ∙ steps t)
 fault_after log counted (end.Exited t code) steps = refl
 fault_after log counted end.AllDone steps = refl
 fault_after log counted end.Cut steps = refl
 
-exit_last_by : (log : Log) (steps : List Pos) (ended : End) → CallsFit log → log.end ≡ ended → ExitLast log steps → ExitLast log (steps ++ fault_by log ended)
+pub exit_last_by : (log : Log) (steps : List Pos) (ended : End) → CallsFit log → log.end ≡ ended → ExitLast log steps → ExitLast log (steps ++ fault_by log ended)
 exit_last_by log steps (end.Faulted t fault) fit e last = no_exits_last log (steps ++ fault_by log (end.Faulted t fault)) (no_exit_at_fault log fit t fault e)
 exit_last_by log steps (end.Exited t code) fit e last = subst (ExitLast log) (sym (append-nil steps)) last
 exit_last_by log steps end.AllDone fit e last = subst (ExitLast log) (sym (append-nil steps)) last

@@ -1,0 +1,6 @@
+mod Passing
+mod Counts
+mod Standing
+mod Weaving
+mod Ends
+mod Totals
