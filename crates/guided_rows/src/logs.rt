@@ -69,7 +69,7 @@ enum Missed {
     Other(usize),
 }
 
-fn missed(alloc: Global, guest: &Guest) -> Result<Missed, NoRun> {
+fn first_missed(alloc: Global, guest: &Guest) -> Result<Missed, NoRun> {
     let loaded = load(alloc, guest)?;
     if !is_explained(alloc, &loaded)? {
         return Ok(Missed::Run);
@@ -86,7 +86,7 @@ fn missed(alloc: Global, guest: &Guest) -> Result<Missed, NoRun> {
 #[test]
 fn runs_explain_their_logs(rt: HostRuntime) -> Result<(), Fail> {
     for (number, guest) in guests().iter().enumerate() {
-        let missed = missed(rt.alloc(), guest)?;
+        let missed = first_missed(rt.alloc(), guest)?;
         assert_eq!(rt; missed, Missed::Nothing, "guest {number}");
     }
     Ok(())

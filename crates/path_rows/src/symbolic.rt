@@ -115,7 +115,7 @@ enum Missed {
 }
 
 /// A guest's run meets the constraints, and so does what is changed of it where the walk holds, and only there.
-fn missed(alloc: Global, guest: &Guest) -> Result<Missed, NoRun> {
+fn first_missed(alloc: Global, guest: &Guest) -> Result<Missed, NoRun> {
     let loaded = load(alloc, guest)?;
     let arena = Bump::new(alloc);
     let mut pool = TermPool::new(alloc, &arena);
@@ -132,7 +132,7 @@ fn missed(alloc: Global, guest: &Guest) -> Result<Missed, NoRun> {
 #[test]
 fn constraints_are_met_where_the_walk_holds(rt: HostRuntime) -> Result<(), Fail> {
     for (number, guest) in guests().iter().enumerate() {
-        let missed = missed(rt.alloc(), guest)?;
+        let missed = first_missed(rt.alloc(), guest)?;
         assert_eq!(rt; missed, Missed::Nothing, "guest {number}");
     }
     Ok(())
