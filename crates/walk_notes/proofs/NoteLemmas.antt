@@ -1,8 +1,9 @@
 -- What a log has of a step is the note of the step in the log's walk.
-use Rattle.std.specs.Prelude.{◌≡◌, ℕ, zero, suc, ◌+◌, ◌<◌, Bool, true, false, ◌&&◌, cond, List, [], ◌∷◌, ◌++◌, length, take, nat_eq, slice_get, Option, Some, None, is_some, refl}
-use Rattle.std.specs.List.{find}
+use Rattle.std.specs.Prelude.{◌≡◌, ℕ, zero, suc, ◌+◌, ◌-◌, ◌<◌, ◌≤◌, Bool, true, false, ◌&&◌, not, cond, List, [], ◌∷◌, length, take, drop, nat_eq, nat_lt, nat_le, slice_get, Option, Some, None, is_some, refl}
+use Rattle.std.specs.List.{find, position, position_or_len}
 use Rattle.std.proofs.Common.{sym, ◌∙◌, ap, subst, arith, get_or, eq-eqb}
-use Rattle.std.proofs.lemmas.Bool.{and_parts, and_from, eqb-true}
+use Rattle.std.proofs.lemmas.Bool.{and_parts, and_from, eqb-true, le-leb, ltb-false, false_from_ne_true, true≢false}
+use Rattle.std.proofs.lemmas.List.{take_rest, drop_all}
 use Rattle.std.proofs.lemmas.Option.{none-some, same_Some}
 use Rattle.elf_image.specs.Layout.{Layout}
 use Rattle.odr_log.specs.declared.log.Call.{Call}
@@ -23,7 +24,7 @@ use Rattle.guided_walk.specs.Told.{told, noted, place_of}
 use Rattle.guided_walk.proofs.Records.{Among, found_among, among_found, rec}
 use Rattle.guided_walk.proofs.Facts.{noted_step, place_called, called_noted}
 use Rattle.guided_walk.proofs.Table.{same_pos}
-use Rattle.walk_notes.specs.Telling.{branch_note, jump_note, call_note, note_by}
+use Rattle.walk_notes.specs.Telling.{branch_note, jump_note, call_note, is_record, note_by, AreAhead}
 
 -- ---- a step goes on where its note leads
 
@@ -83,8 +84,46 @@ items_more thread from (n ∷ notes) (suc i) less =
 
 -- ---- the record of a call
 
-abbrev pub is_record : ℕ → ℕ → CallRec → Bool
-is_record thread step r = nat_eq r.tid thread && nat_eq r.at step
+-- the first that passes a test stands behind all that fail a wider one
+one_behind : (test wider : CallRec → Bool) (r : CallRec) (calls : List CallRec) → (test r ≡ true → wider r ≡ true) → find test (drop (position_or_len wider calls) calls) ≡ find test calls
+    → (b : Bool) → wider r ≡ b → find test (drop (cond (not b) (1 + position_or_len wider calls) 0) (r ∷ calls)) ≡ find test (r ∷ calls)
+one_behind test wider r calls passes behind true e = refl
+one_behind test wider r calls passes behind false e =
+    let fails : test r ≡ false = false_from_ne_true _ (λ (passed : test r ≡ true). true≢false (sym (passes passed) ∙ e)) in
+    ap (λ (k : ℕ). find test (drop k (r ∷ calls))) (let one : 1 + position_or_len wider calls ≡ suc (position_or_len wider calls) = omega arith in one)
+    ∙ behind
+    ∙ sym (ap (λ (b : Bool). cond b (Some r) (find test calls)) fails)
+
+found_behind : (test wider : CallRec → Bool) → ((r : CallRec) → test r ≡ true → wider r ≡ true) → (calls : List CallRec)
+    → find test (drop (position_or_len wider calls) calls) ≡ find test calls
+found_behind test wider passes [] = refl
+found_behind test wider passes (r ∷ calls) = one_behind test wider r calls (passes r) (found_behind test wider passes calls) (wider r) refl
+
+abbrev is_from : ℕ → ℕ → CallRec → Bool
+is_from thread step r = nat_eq r.tid thread && nat_le step r.at
+
+is_later : (thread step later : ℕ) (r : CallRec) → step ≤ later → is_record thread later r ≡ true → is_from thread step r ≡ true
+is_later thread step later r le e =
+    let parts : (nat_eq r.tid thread ≡ true) × (nat_eq r.at later ≡ true) = and_parts _ _ e in
+    and_from _ _ parts.0 (le-leb step r.at (omega (arith, le, eqb-true r.at later parts.1)))
+
+ahead : (calls : List CallRec) (thread step : ℕ) → AreAhead calls thread step (drop (position_or_len (is_from thread step) calls) calls)
+ahead calls thread step later le = found_behind (is_record thread later) (is_from thread step) (λ (r : CallRec). is_later thread step later r le) calls
+
+-- from the first record of this step or of a later one of its thread on
+pub ahead_at : (calls : List CallRec) (thread step place : ℕ) → position (is_from thread step) calls ≡ Some place → AreAhead calls thread step (take (length calls - place) (drop place calls))
+ahead_at calls thread step place e = by_test (nat_lt (position_or_len (is_from thread step) calls) (length calls)) e where
+  by_test : (b : Bool) → cond b (Some (position_or_len (is_from thread step) calls)) None ≡ Some place → AreAhead calls thread step (take (length calls - place) (drop place calls))
+  by_test true s =
+      let here : position_or_len (is_from thread step) calls ≡ place = same_Some _ place s in
+      subst (AreAhead calls thread step) (ap (λ (k : ℕ). drop k calls) here ∙ sym (take_rest calls place)) (ahead calls thread step)
+  by_test false s = absurd (none-some place s)
+
+pub ahead_none : (calls : List CallRec) (thread step : ℕ) → position (is_from thread step) calls ≡ None → AreAhead calls thread step []
+ahead_none calls thread step e = by_test (nat_lt (position_or_len (is_from thread step) calls) (length calls)) refl e where
+  by_test : (b : Bool) → nat_lt (position_or_len (is_from thread step) calls) (length calls) ≡ b → cond b (Some (position_or_len (is_from thread step) calls)) None ≡ None → AreAhead calls thread step []
+  by_test true t s = absurd (none-some (position_or_len (is_from thread step) calls) (sym s))
+  by_test false t s = subst (AreAhead calls thread step) (drop_all (position_or_len (is_from thread step) calls) calls (ltb-false _ _ t)) (ahead calls thread step)
 
 pub called_is : (image : Layout) (log : Log) (walk : Walk) → IsWalk image log walk → (p : Pos) (made : Call) → p.step < length (notes_of walk p.thread)
     → get_or (notes_of walk p.thread) p.step note.Nothing ≡ note.Called made → call_note (find (is_record p.thread p.step) log.calls) ≡ note.Called made
@@ -104,7 +143,7 @@ pub note_fits : (log : Log) (thread step count : ℕ) (pc : ℕ) (how : Transfer
     → ((taken : Bool) → n ≡ note.Branch taken → slice_get (logged log thread).path count ≡ Some (item.Branch taken))
     → ((target : ℕ) → n ≡ note.Jump target → slice_get (logged log thread).path count ≡ Some (item.Jump target))
     → ((made : Call) → n ≡ note.Called made → call_note (find (is_record thread step) log.calls) ≡ note.Called made)
-    → note_by log thread step count how ≡ n
+    → note_by (slice_get (logged log thread).path count) (find (is_record thread step) log.calls) how ≡ n
 note_fits log thread step count pc (transfer.Branch target) (note.Branch taken) next e branch jump called = ap branch_note (branch taken refl)
 note_fits log thread step count pc (transfer.Branch target) note.Nothing next e branch jump called = absurd (none-some next e)
 note_fits log thread step count pc (transfer.Branch target) (note.Jump to) next e branch jump called = absurd (none-some next e)

@@ -1,12 +1,11 @@
 -- The notes of a thread, one step more at a time, and of all threads.
-use Rattle.std.specs.Prelude.{◌≡◌, ℕ, zero, suc, ◌+◌, ◌<◌, ◌-◌, ◌≤◌, Bool, true, false, cond, List, [], ◌∷◌, ◌++◌, length, take, nat_eq, slice_get, slice_index_or, Option, Some, None, option_map, is_some, refl}
+use Rattle.std.specs.Prelude.{◌≡◌, ℕ, suc, ◌+◌, ◌<◌, ◌-◌, ◌≤◌, Bool, true, false, cond, List, [], ◌∷◌, ◌++◌, length, take, nat_eq, slice_get, slice_index_or, Option, Some, None, option_map, is_some, refl}
 use Rattle.std.specs.List.{find}
-use Rattle.std.proofs.Common.{sym, ◌∙◌, ap, subst, arith, inl, inr, get_or, ltb}
-use Rattle.std.proofs.lemmas.Bool.{cases_lt, cases_eq, eqb-true, ltb-true, ltb-false}
+use Rattle.std.proofs.Common.{sym, ◌∙◌, ap, arith, inl, inr, get_or}
+use Rattle.std.proofs.lemmas.Bool.{cases_lt, eqb-true}
 use Rattle.std.proofs.lemmas.List.{take_more, take_all, get_or_past}
 use Rattle.std.proofs.Math.ListN.{get_or-append}
 use Rattle.std.proofs.Math.Seq.{get_or-append_right}
-use Rattle.std.proofs.lemmas.Option.{same_Some, slice_get_within}
 use mathlib.Core.Path.{fun_ext}
 use Rattle.elf_image.specs.Layout.{Layout}
 use Rattle.odr_log.specs.declared.log.Call.{Call}
@@ -20,7 +19,6 @@ use Rattle.odr_log.specs.declared.log.Pos.{Pos}
 use Rattle.rv_model.specs.declared.state.Note.{Note}
 use Rattle.rv_model.specs.declared.state.Note.TheVariants as note
 use Rattle.rv_model.specs.declared.walk.FaultPlace.{FaultPlace}
-use Rattle.rv_model.specs.declared.walk.Place.{Place}
 use Rattle.rv_model.specs.declared.walk.Transfer.{Transfer}
 use Rattle.rv_model.specs.Run.{logged, item_of}
 use Rattle.rv_model.specs.Walk.{Walk, IsWalk, ThreadWalk, FaultFits, notes_of, places_of, transfer_of, goes_to, makes}
@@ -30,8 +28,8 @@ use Rattle.guided_walk.specs.Told.{Told, told, last_fault, shown_by, place_of, e
 use Rattle.guided_walk.proofs.Facts.{past_notes, in_log}
 use Rattle.guided_walk.proofs.ScheduleLaw.{notes_are}
 use Rattle.walk_lists.specs.Data.{told_of}
-use Rattle.walk_notes.specs.Telling.{note_by, call_note, IsTransfer}
-use Rattle.walk_notes.proofs.NoteLemmas.{leads_at, items, item_at, items_more, is_record, called_is, note_fits}
+use Rattle.walk_notes.specs.Telling.{is_record, note_by, AreAhead, IsTransfer}
+use Rattle.walk_notes.proofs.NoteLemmas.{leads_at, items, item_at, items_more, called_is, note_fits}
 
 -- ---- one thread
 
@@ -44,7 +42,7 @@ row_none image log thread walk is = (refl, refl)
 
 note_is : (image : Layout) (log : Log) (walk : Walk) (traced : Traced) → IsWalk image log walk → IsTraced image log traced → (thread step count : ℕ) (how : Transfer)
     → step < length (notes_of walk thread) → IsTransfer traced thread step how → count ≡ length (items thread 0 (take step (notes_of walk thread)))
-    → note_by log thread step count how ≡ get_or (notes_of walk thread) step note.Nothing
+    → note_by (slice_get (logged log thread).path count) (find (is_record thread step) log.calls) how ≡ get_or (notes_of walk thread) step note.Nothing
 note_is image log walk traced is t thread step count how less goes counted =
     let notes : List Note = notes_of walk thread in
     let n : Note = get_or notes step note.Nothing in
@@ -57,26 +55,35 @@ note_is image log walk traced is t thread step count how less goes counted =
     let at : (it : PathItem) → item_of n ≡ Some it → slice_get (logged log thread).path count ≡ Some it = λ (it : PathItem) (e : item_of n ≡ Some it).
     ap (λ (xs : List PathItem). slice_get xs count) (sym tw.path) ∙ ap (slice_get (items thread 0 notes)) counted ∙ item_at thread 0 notes step it less e in
     let p : Pos = record { thread = thread; step = step } in
-    ap (note_by log thread step count) goes.2
+    ap (note_by (slice_get (logged log thread).path count) (find (is_record thread step) log.calls)) goes.2
     ∙ note_fits log thread step count goes.0.pc (transfer_of goes.0.pc goes.0.instr) n leads.0 leads.1
     (λ (taken : Bool) (e : n ≡ note.Branch taken). at (item.Branch taken) (ap item_of e))
     (λ (target : ℕ) (e : n ≡ note.Jump target). at (item.Jump target) (ap item_of e))
     (λ (made : Call) (e : n ≡ note.Called made). called_is image log walk is p made less e)
 
-pub row_more : (image : Layout) (log : Log) (traced : Traced) → IsTraced image log traced → (thread step : ℕ) (notes after : List Note) (count more : ℕ) (how : Transfer) (shown : Note)
-    → step < (logged log thread).steps → IsTransfer traced thread step how → shown ≡ note_by log thread step count how → after ≡ notes ++ shown ∷ []
+pub row_more : (image : Layout) (log : Log) (traced : Traced) → IsTraced image log traced → (thread step : ℕ) (notes after : List Note) (count more : ℕ) (calls : List CallRec) (how : Transfer) (shown : Note)
+    → step < (logged log thread).steps → IsTransfer traced thread step how → AreAhead log.calls thread step calls → shown ≡ note_by (slice_get (logged log thread).path count) (find (is_record thread step) calls) how → after ≡ notes ++ shown ∷ []
     → more ≡ count + cond (is_some (item_of shown)) 1 0 → RowSoFar image log thread step notes count → RowSoFar image log thread (step + 1) after more
-row_more image log traced t thread step notes after count more how shown less goes is_note pushed added so_far walk is =
+row_more image log traced t thread step notes after count more calls how shown less goes ahead is_note pushed added so_far walk is =
     let all : List Note = notes_of walk thread in
     let within : step < length all = omega (arith, less, notes_are image log walk is thread) in
     let old : (notes ≡ take step all) × (count ≡ length (items thread 0 (take step all))) = so_far walk is in
-    let here : shown ≡ get_or all step note.Nothing = is_note ∙ note_is image log walk traced is t thread step count how within goes old.1 in (
+    let made : find (is_record thread step) calls ≡ find (is_record thread step) log.calls = ahead step (omega arith) in
+    let here : shown ≡ get_or all step note.Nothing =
+    is_note ∙ ap (λ (r : Option CallRec). note_by (slice_get (logged log thread).path count) r how) made ∙ note_is image log walk traced is t thread step count how within goes old.1 in (
       pushed ∙ ap (λ (xs : List Note). xs ++ shown ∷ []) old.0 ∙ ap (λ (x : Note). take step all ++ x ∷ []) here ∙ sym (take_more all step note.Nothing within),
       added
           ∙ ap (λ (n : Note). count + cond (is_some (item_of n)) 1 0) here
           ∙ ap (λ (m : ℕ). m + cond (is_some (item_of (get_or all step note.Nothing))) 1 0) old.1
           ∙ sym (ap (λ (k : ℕ). length (items thread 0 (take k all))) (let e : step + 1 ≡ suc step = omega arith in e) ∙ items_more thread 0 all step within),
     )
+
+-- ahead of a step is ahead of those after it, and what is ahead of calls that are ahead is so too
+pub ahead_more : (all : List CallRec) (thread step : ℕ) (calls : List CallRec) → AreAhead all thread step calls → AreAhead all thread (step + 1) calls
+ahead_more all thread step calls ahead later le = ahead later (omega (arith, le))
+
+pub ahead_of : (all : List CallRec) (thread step : ℕ) (calls rest : List CallRec) → AreAhead all thread step calls → AreAhead calls thread step rest → AreAhead all thread step rest
+ahead_of all thread step calls rest ahead next later le = next later le ∙ ahead later le
 
 pub row_all : (image : Layout) (log : Log) (thread step : ℕ) (notes : List Note) (count : ℕ) → (logged log thread).steps ≤ step → RowSoFar image log thread step notes count
     → (walk : Walk) → IsWalk image log walk → notes ≡ notes_of walk thread

@@ -1,15 +1,14 @@
 //! The note of one step.
 
-ghost use Rattle.std.specs.Prelude.{◌≡◌, ◌&&◌, nat_eq, slice_get, is_some, ◌≤◌, IfOk, if◌then◌else◌};
-ghost use Rattle.std.specs.List.{find};
+ghost use Rattle.std.specs.Prelude.{◌≡◌, ◌&&◌, length, nat_eq, nat_le, slice_get, is_some, ◌<◌, ◌≤◌, IfOk, IfSome, if◌then◌else◌};
+ghost use Rattle.std.specs.List.{find, position};
 ghost use Rattle.std.specs.Option.{option_copied};
 ghost use Rattle.rv_model.specs.Run.{item_of};
-ghost use Rattle.walk_notes.specs.Telling.{branch_note, jump_note, call_note, note_by};
+ghost use Rattle.walk_notes.specs.Telling.{branch_note, jump_note, call_note, is_record, note_by, AreAhead};
 
 use odr_list::bytes::Bytes;
 use odr_list::memory::Memory;
-use odr_log::log::{Call, CallRec, Log, PathItem};
-use rv_model::logged::path_logged;
+use odr_log::log::{Call, CallRec, PathItem, Pos};
 use rv_model::state::Note;
 use rv_model::walk::Transfer;
 use std::alloc::Global;
@@ -32,11 +31,31 @@ fn jump_note(path: &[PathItem], items: usize) -> Note
     }
 }
 
-/// The record of a call of a step.
-fn record_at(calls: &[CallRec], thread: u8, step: u32) -> Option<&CallRec>
-    ensures { option_copied result ≡ find (λ r. nat_eq r.tid thread && nat_eq r.at step) calls.now }
+/// The place of the first record of this step or of a later one of its thread.
+fn place_from(calls: &[CallRec], at: Pos) -> Option<usize>
+    ensures value { result ≡ position (λ r. nat_eq r.tid at.thread && nat_le at.step r.at) calls.now }
+    ensures within { IfSome result (λ place. place < length calls.now) }
 {
-    calls.iter().find(|r| r.tid == thread && r.at == step)
+    calls
+        .iter()
+        .position(|r| r.tid == at.thread && at.step <= r.at)
+}
+
+/// The records from the first of this step or of a later one of its thread on.
+pub fn calls_from(calls: &[CallRec], at: Pos) -> &[CallRec]
+    ensures { AreAhead calls.now at.thread at.step result.now }
+{
+    match place_from(calls, at) {
+        None => &[],
+        Some(place) => &calls[place..],
+    }
+}
+
+/// The record of a call of a step.
+fn record_at(calls: &[CallRec], at: Pos) -> Option<&CallRec>
+    ensures { option_copied result ≡ find (is_record at.thread at.step) calls.now }
+{
+    calls.iter().find(|r| r.tid == at.thread && r.at == at.step)
 }
 
 fn copy_of(alloc: Global, call: &Call) -> Result<Call, Memory>
@@ -89,21 +108,21 @@ fn call_note(alloc: Global, found: Option<&CallRec>) -> Result<Note, Memory>
     }
 }
 
-/// The note of a step after which control so goes on, where so many items of the thread's path are behind it.
+/// The note of a step after which control so goes on, where so many items of its thread's path are behind it.
 pub fn note_at(
     alloc: Global,
-    log: &Log,
-    thread: u8,
-    step: u32,
+    path: &[PathItem],
     items: usize,
+    calls: &[CallRec],
+    at: Pos,
     transfer: &Transfer,
 ) -> Result<Note, Memory>
-    ensures { IfOk result (λ shown. shown ≡ note_by log.now thread step items transfer.now) }
+    ensures { IfOk result (λ shown. shown ≡ note_by (slice_get path.now items) (find (is_record at.thread at.step) calls.now) transfer.now) }
 {
     match transfer {
-        Transfer::Branch { .. } => Ok(branch_note(path_logged(log, thread as usize), items)),
-        Transfer::Indirect => Ok(jump_note(path_logged(log, thread as usize), items)),
-        Transfer::Call => call_note(alloc, record_at(log.calls.as_slice(), thread, step)),
+        Transfer::Branch { .. } => Ok(branch_note(path, items)),
+        Transfer::Indirect => Ok(jump_note(path, items)),
+        Transfer::Call => call_note(alloc, record_at(calls, at)),
         _ => Ok(Note::Nothing),
     }
 }

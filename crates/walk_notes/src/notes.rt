@@ -8,12 +8,12 @@ ghost use Rattle.guided_walk.specs.Told.{told, last_fault, shown_by};
 ghost use Rattle.walk_lists.specs.Data.{told_of};
 ghost use Rattle.walk_notes.specs.Telling.{IsTransfer};
 
-use crate::note::{items_in, note_at};
+use crate::note::{calls_from, items_in, note_at};
 use elf_image::image::Image;
 use odr_list::list::List;
 use odr_list::memory::Memory;
 use odr_log::log::{End, Log, Pos};
-use rv_model::logged::steps_logged;
+use rv_model::logged::{path_logged, steps_logged};
 use rv_model::state::Note;
 use rv_model::walk::{Transfer, transfer_of};
 use std::alloc::Global;
@@ -51,10 +51,14 @@ fn counted_notes(
     ensures { IfOk result (λ notes. (walk : Walk) → IsWalk image.now log.now walk → notes ≡ notes_of walk thread) }
 {
     let mut notes = List::new(alloc);
+    let path = path_logged(log, thread as usize);
     let mut items = 0usize;
+    let mut calls = log.calls.as_slice();
     for step in 0..steps_logged(log, thread as usize) {
-        let transfer = transfer_at(image, log, traces, Pos { thread, step });
-        let note = note_at(alloc, log, thread, step, items, &transfer)?;
+        let at = Pos { thread, step };
+        let transfer = transfer_at(image, log, traces, at);
+        calls = calls_from(calls, at);
+        let note = note_at(alloc, path, items, calls, at, &transfer)?;
         items += items_in(&note);
         notes.push(note)?;
     }

@@ -1,5 +1,6 @@
 //! What the run of a schedule shows and hears at each step.
 
+use crate::no_run::NoRun;
 use elf_image::image::Image;
 use odr_list::bytes::Bytes;
 use odr_list::list::List;
@@ -12,8 +13,9 @@ use plain_walk::given::Supplied;
 use rv_model::code::instr_at;
 use rv_model::state::{State, Thread};
 use std::alloc::{AllocError, Global};
-use std::process::Abort;
-use std::test::Fail;
+
+/// No thread of a worked log takes so many.
+pub const MOST_STEPS: u32 = 1000;
 
 /// What the steps of each of eight threads heard from memory and reservations, and the steps in the order of the schedule.
 #[derive(Drop)]
@@ -53,7 +55,7 @@ fn supplied(
     image: &Image,
     state: &State,
     thread: &Thread,
-) -> Result<Supplied, Fail> {
+) -> Result<Supplied, NoRun> {
     let Ok(instr) = instr_at(image, thread.local.pc) else {
         return Ok(Supplied {
             bytes: Bytes::new(alloc),
@@ -69,31 +71,58 @@ fn supplied(
     })
 }
 
-/// The run of a schedule over the input of a log.
-pub fn run(
-    rt: &impl Abort,
-    alloc: Global,
-    image: &Image,
-    log: &Log,
-    schedule: &[u8],
-) -> Result<Ran, Fail> {
-    let mut ran = Ran {
-        rows: Vec::new(alloc),
-        steps: places(alloc, schedule)?,
-    };
-    for _thread in 0..8 {
-        ran.rows.push(List::new(alloc))?;
+/// What the next step of a thread hears, and the state after it.
+#[derive(Drop)]
+struct Next {
+    heard: Supplied,
+    state: State,
+}
+
+fn advance(alloc: Global, image: &Image, state: State, thread: u8) -> Result<Next, NoRun> {
+    if !plain::enabled(alloc, image, &state, thread)? {
+        return Err(NoRun::Schedule);
     }
+    let Some(before) = state.core.threads.as_slice().get(thread as usize).copied() else {
+        return Err(NoRun::Schedule);
+    };
+    if before.retired >= MOST_STEPS {
+        return Err(NoRun::Schedule);
+    }
+    let heard = supplied(alloc, image, &state, &before)?;
+    let stepped = plain::step(alloc, image, state, thread)?;
+    Ok(Next {
+        heard,
+        state: stepped.state,
+    })
+}
+
+/// No steps yet of eight threads.
+fn no_rows(alloc: Global) -> Result<Vec<List<Supplied>>, AllocError> {
+    let mut rows = Vec::new(alloc);
+    for _thread in 0..8 {
+        rows.push(List::new(alloc))?;
+    }
+    Ok(rows)
+}
+
+/// The run of a schedule over the input of a log.
+///
+/// # Errors
+///
+/// `NoRun`, where a step of the schedule can't be taken.
+pub fn run(alloc: Global, image: &Image, log: &Log, schedule: &[u8]) -> Result<Ran, NoRun> {
+    let mut rows = no_rows(alloc)?;
     let mut state = plain::opening(alloc, image, Bytes::of(tape(alloc, log)?))?;
     for thread in schedule {
-        let at = *thread as usize;
-        assert!(rt; plain::enabled(alloc, image, &state, *thread)?);
-        let before = *state.core.threads.as_slice().get(at).ok_or("no thread")?;
-        assert!(rt; before.retired < 1000);
-        let row = supplied(alloc, image, &state, &before)?;
-        let stepped = plain::step(alloc, image, state, *thread)?;
-        ran.rows.get_mut(at).ok_or("no thread")?.push(row)?;
-        state = stepped.state;
+        let next = advance(alloc, image, state, *thread)?;
+        match rows.get_mut(*thread as usize) {
+            Some(row) => row.push(next.heard)?,
+            None => return Err(NoRun::Schedule),
+        }
+        state = next.state;
     }
-    Ok(ran)
+    Ok(Ran {
+        rows,
+        steps: places(alloc, schedule)?,
+    })
 }
