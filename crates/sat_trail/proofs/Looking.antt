@@ -40,8 +40,7 @@ keep-stay w v from gap x pair stay is found paired both holds =
 pub block-stay : (w : Watched) (v : Partial) (from : Lit) (gap : ℕ) (x : Watcher) (pair : Pair) (stay : Lit) → IsIndexed w → from.var < w.vars → slice_get (row_in w.rows from) gap ≡ Some x
     → slice_get w.pairs x.clause ≡ Some pair → IsBoth pair from stay → MakesTrue v stay → CanKeep w v from gap × CanBlock w from gap x.clause stay
 block-stay w v from gap x pair stay is known found paired both holds =
-    let has : HasLiteral w.clauses x.clause x.blocker = is.sound from gap x found in
-    (
+    let has : HasLiteral w.clauses x.clause x.blocker = is.sound from gap x found in (
       keep-stay w v from gap x pair stay is found paired both holds,
       record {
         known = known;
