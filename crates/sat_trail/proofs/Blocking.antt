@@ -1,5 +1,5 @@
 -- A watcher with another blocker.
-use Rattle.std.proofs.Common.{◌≡◌, ◌≢◌, ℕ, ◌*◌, ◌<◌, ◌⊎◌, ◌+◌, Some, List, [], set, length, get_or, slice_get, refl, sym, ◌∙◌, ap, subst, inl, inr, arith}
+use Rattle.std.proofs.Common.{◌≡◌, ◌≢◌, ℕ, ◌<◌, ◌⊎◌, ◌+◌, Some, List, [], set, length, slice_get, refl, sym, ◌∙◌, ap, subst, inl, inr, arith}
 use Rattle.std.specs.Prelude.{Any, Contains}
 use Rattle.std.proofs.lemmas.Bool.{cases_eq}
 use Rattle.std.proofs.lemmas.Option.{same_Some, slice_get_within}
@@ -12,7 +12,7 @@ use Rattle.sat_trail.specs.declared.watcher.Pair.{Pair}
 use Rattle.sat_trail.specs.declared.watcher.Watcher.{Watcher}
 use Rattle.sat_trail.specs.Packing.{place_of}
 use Rattle.sat_trail.specs.Paths.{Path, IsWalk, value_in}
-use Rattle.sat_trail.specs.Watching.{Watched, clauses_of, pairs_of, row_in, IsOneOf, ListsFrom, HasLiteral, IsIndexed, IsIndex, IsWatching, CanBlock, IsBlocked, CanMove}
+use Rattle.sat_trail.specs.Watching.{Watched, clauses_of, pairs_of, row_in, ListsFrom, HasLiteral, IsIndexed, IsIndex, IsWatching, CanBlock, IsBlocked, CanMove}
 use Rattle.sat_trail.specs.Visits.{CanKeep, IsEngine, IsHalf}
 use Rattle.sat_trail.proofs.Listing.{get-set_same, get-set_other, get-set_at, place-one}
 use Rattle.sat_trail.proofs.Adding.{place-below}

@@ -1,4 +1,4 @@
-use Rattle.std.proofs.Common.{List, [], Vec, Global, set, ap, refl, ◌∙◌}
+use Rattle.std.proofs.Common.{List, [], Vec, Global, set, ap}
 use Rattle.std.specs.Vec.{with_item}
 use Rattle.sat_trail.specs.declared.watcher.Watcher.{Watcher}
 use Rattle.sat_trail.specs.Packing.{place_of}
