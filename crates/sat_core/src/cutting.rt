@@ -32,6 +32,7 @@ pub struct Cutting {
     states: Vec<State>,
     named_levels: Vec<bool>,
     touched: Vec<usize>,
+    marked: Vec<usize>,
     named: Vec<usize>,
     met: Vec<usize>,
 }
@@ -52,6 +53,7 @@ impl Cutting {
             states,
             named_levels,
             touched: Vec::new(alloc),
+            marked: Vec::new(alloc),
             named: Vec::new(alloc),
             met: Vec::new(alloc),
         })
@@ -91,7 +93,8 @@ impl Cutting {
         self.sync(engine);
         self.clear();
         self.mark_all(engine.clause(clash as usize))?;
-        self.walk(engine, is_first)?;
+        let key = self.walk(engine, is_first)?;
+        self.spread(engine, is_first, key)?;
         for at in 0..self.named.len() {
             self.try_drop(engine, at)?;
         }
@@ -140,6 +143,7 @@ impl Cutting {
                 self.named_levels[level] = false;
             }
         }
+        self.marked.clear();
         self.named.clear();
         self.met.clear();
     }
@@ -155,22 +159,36 @@ impl Cutting {
         if var < self.marks.len() && !self.marks[var] {
             self.marks[var] = true;
             self.touched.push(var)?;
+            self.marked.push(var)?;
         }
         Ok(())
     }
 
-    // The same walk as the one that makes the line, without its lists.
-    fn walk(&mut self, engine: &Engine, is_first: &[bool]) -> Result<(), Memory> {
-        let mut keyed = false;
+    // The same walk as the one that makes the line, down to the key, of which it gives the place.
+    fn walk(&mut self, engine: &Engine, is_first: &[bool]) -> Result<usize, Memory> {
         let mut at = engine.len();
         while at > 0 {
             at -= 1;
             let lit = engine.step(at).lit;
-            if self.level_of(lit.var()) == 0 {
-                return Ok(());
-            }
             if is_marked(self.marks.as_slice(), lit) {
-                keyed = self.visit(engine, is_first, at, keyed)?;
+                if self.level_of(lit.var()) == 0 || self.visit(engine, is_first, at, false)? {
+                    return Ok(at);
+                }
+            }
+        }
+        Ok(0)
+    }
+
+    // Below the key the order of the marked steps doesn't matter, so no others are looked at.
+    fn spread(&mut self, engine: &Engine, is_first: &[bool], key: usize) -> Result<(), Memory> {
+        for at in 0..engine.vars() {
+            let Some(marked) = self.marked.get(at) else {
+                return Ok(());
+            };
+            let var = *marked;
+            let place = self.place_of(var);
+            if place < key && place < engine.len() && self.level_of(var) > 0 {
+                self.visit(engine, is_first, place, true)?;
             }
         }
         Ok(())

@@ -12,9 +12,6 @@ use clause_store::derivation::Derivation;
 use clause_store::store::ClauseStore;
 use std::alloc::Global;
 
-/// How many lines a turn of the scout has for one of the search.
-const LINES: u64 = 4;
-
 /// What is kept between turns: guesses, and whether the clauses were refuted. Nothing is owed of the scout's lines, so
 /// they are thrown away after each turn.
 #[derive(Drop)]
@@ -24,13 +21,16 @@ pub struct Scout {
 }
 
 impl Scout {
-    /// At its start.
-    pub fn new(alloc: Global, vars: usize) -> Result<Scout, Memory> {
-        let hints = Hints::new(alloc, vars)?;
-        Ok(Scout {
-            hints,
-            ended: false,
-        })
+    /// At its start. Where every variable is marked, the search is one over all variables itself, and has no scout.
+    pub fn new(alloc: Global, is_first: &[bool]) -> Result<Scout, Memory> {
+        let hints = Hints::new(alloc, is_first.len())?;
+        let ended = is_first.iter().all(|marked| *marked);
+        Ok(Scout { hints, ended })
+    }
+
+    /// Whether it has nothing left to do.
+    pub fn has_ended(&self) -> bool {
+        self.ended
     }
 
     /// Searches for so many lines; values that satisfy the clauses, if it finds some.
@@ -47,7 +47,7 @@ impl Scout {
         }
         let all = all_below(alloc, clauses.vars())?;
         let marks = marks_of(alloc, all.as_slice(), clauses.vars() as usize)?;
-        let budget = turn.saturating_mul(LINES).saturating_add(1);
+        let budget = turn.saturating_add(1);
         let lines = Derivation::new(alloc);
         match search(
             alloc,

@@ -75,11 +75,11 @@ fn take_turns<'a>(
     let marks = marks_of(alloc, first, vars)?;
     let is_first = marks.as_slice();
     let mut hints = Hints::new(alloc, vars)?;
-    let mut scout = Scout::new(alloc, vars)?;
+    let mut scout = Scout::new(alloc, is_first)?;
     let mut lines = Derivation::new(alloc);
     let mut turn = FIRST_TURN;
     loop {
-        let pause = (lines.len() as u64).saturating_add(turn);
+        let pause = pause_after(&lines, turn, &scout, budget);
         match search(
             alloc, clauses, first, is_first, &mut hints, lines, budget, pause,
         )? {
@@ -94,5 +94,14 @@ fn take_turns<'a>(
                 turn = turn.saturating_mul(2);
             }
         }
+    }
+}
+
+/// With how many lines the next pause is due: none before the budget where there is nobody to take turns with.
+fn pause_after(lines: &Derivation, turn: u64, scout: &Scout, budget: u64) -> u64 {
+    if scout.has_ended() {
+        budget
+    } else {
+        (lines.len() as u64).saturating_add(turn)
     }
 }

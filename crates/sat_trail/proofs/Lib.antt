@@ -7,5 +7,6 @@ pub mod Moving
 pub mod Indexing
 pub mod Looking
 pub mod RowVisits
+pub mod Blocking
 pub mod Running
 pub mod Loads

@@ -1,5 +1,5 @@
 -- What a look at one watcher gives.
-use Rattle.std.proofs.Common.{◌≡◌, ◌≢◌, ℕ, Some, List, slice_get, refl, sym, ◌∙◌, subst, inl, inr}
+use Rattle.std.proofs.Common.{◌≡◌, ◌≢◌, ℕ, ◌<◌, Some, List, slice_get, refl, sym, ◌∙◌, subst, inl, inr}
 use Rattle.std.specs.Prelude.{Contains}
 use Rattle.std.proofs.lemmas.Option.{same_Some}
 use Rattle.clause_store.specs.declared.lit.Lit.{Lit}
@@ -7,7 +7,7 @@ use Rattle.clause_store.specs.UnitRule.{Partial, MakesTrue, MakesFalse, LeavesOp
 use Rattle.clause_store.proofs.Members.{Any-from_contains}
 use Rattle.sat_trail.specs.declared.watcher.Pair.{Pair}
 use Rattle.sat_trail.specs.declared.watcher.Watcher.{Watcher}
-use Rattle.sat_trail.specs.Watching.{Watched, IsBoth, HasLiteral, IsIndexed, row_in}
+use Rattle.sat_trail.specs.Watching.{Watched, IsBoth, HasLiteral, IsIndexed, CanBlock, row_in}
 use Rattle.sat_trail.specs.Visits.{CanKeep, CanPush}
 use Rattle.sat_trail.proofs.Moving.{contains-watched}
 use Rattle.sat_trail.proofs.Indexing.{literal-known}
@@ -35,6 +35,21 @@ keep-stay w v from gap x pair stay is found paired both holds =
       found = found;
       holds = λ clause other numbered other_found one. Any-from_contains (MakesTrue v) clause stay (stay-listed w x.clause pair from stay clause is paired both numbered) holds;
     }
+
+-- the watcher of such a clause may have the other literal as its blocker
+pub block-stay : (w : Watched) (v : Partial) (from : Lit) (gap : ℕ) (x : Watcher) (pair : Pair) (stay : Lit) → IsIndexed w → from.var < w.vars → slice_get (row_in w.rows from) gap ≡ Some x
+    → slice_get w.pairs x.clause ≡ Some pair → IsBoth pair from stay → MakesTrue v stay → CanKeep w v from gap × CanBlock w from gap x.clause stay
+block-stay w v from gap x pair stay is known found paired both holds =
+    let has : HasLiteral w.clauses x.clause x.blocker = is.sound from gap x found in (
+      keep-stay w v from gap x pair stay is found paired both holds,
+      record {
+        known = known;
+        watcher = x;
+        found = found;
+        named = refl;
+        has = record { clause = has.clause; found = has.found; listed = stay-listed w x.clause pair from stay has.clause is paired both has.found };
+      },
+    )
 
 pub push-stay : (w : Watched) (v : Partial) (from : Lit) (gap : ℕ) (x : Watcher) (pair : Pair) (stay : Lit) (clause : List Lit) → IsIndexed w → slice_get (row_in w.rows from) gap ≡ Some x
     → slice_get w.pairs x.clause ≡ Some pair → IsBoth pair from stay → slice_get w.clauses x.clause ≡ Some clause → LeavesOpen v stay

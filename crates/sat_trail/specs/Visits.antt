@@ -8,9 +8,9 @@ use Rattle.sat_trail.specs.declared.watcher.Pair.{Pair}
 use Rattle.sat_trail.specs.declared.watcher.Watcher.{Watcher}
 use Rattle.sat_trail.specs.declared.propagate.Run.{Run}
 use Rattle.sat_trail.specs.declared.visit.Visit.{Visit}
-use Rattle.sat_trail.specs.declared.visit.Visit.TheVariants.{Keep, Move, Clash, Push}
+use Rattle.sat_trail.specs.declared.visit.Visit.TheVariants.{Keep, Block, Move, Clash, Push}
 use Rattle.sat_trail.specs.Paths.{Path, IsPath, IsWalk, value_in}
-use Rattle.sat_trail.specs.Watching.{Watched, IsOneOf, IsBoth, ListsFrom, IsWatching, CanMove, row_in}
+use Rattle.sat_trail.specs.Watching.{Watched, IsOneOf, IsBoth, ListsFrom, IsWatching, CanBlock, CanMove, row_in}
 
 -- the pair's other literal, if this is one of it
 abbrev pub IsOther : Pair → Lit → Option Lit → Type 0
@@ -54,6 +54,7 @@ pub record CanPush (w : Watched) (v : Partial) (from : Lit) (gap c : ℕ) (l : L
 -- what a look at the watcher at a place of the row gives
 abbrev pub IsVisit : Watched → Partial → Lit → ℕ → Visit → Type 0
 IsVisit w v from gap Keep = CanKeep w v from gap
+IsVisit w v from gap (Block c l) = CanKeep w v from gap × CanBlock w from gap c l
 IsVisit w v from gap (Move c stay to) = CanMove w from gap c stay to × (MakesFalse v to → ⊥)
 IsVisit w v from gap (Clash c) = IsFalseClause w.clauses v c
 IsVisit w v from gap (Push c l) = CanPush w v from gap c l

@@ -102,6 +102,22 @@ pub record IsWritten (old new : List Entry) (c : ℕ) (pair : Pair) : Type 0 whe
 abbrev pub IsBoth : Pair → Lit → Lit → Type 0
 IsBoth pair a b = ((pair.one ≡ a) × (pair.two ≡ b)) ⊎ ((pair.two ≡ a) × (pair.one ≡ b))
 
+-- the clause at a place of the row has this literal
+pub record CanBlock (w : Watched) (from : Lit) (gap c : ℕ) (l : Lit) : Type 0 where
+  pub known : from.var < w.vars
+  pub watcher : Watcher
+  pub found : slice_get (row_in w.rows from) gap ≡ Some watcher
+  pub named : watcher.clause ≡ c
+  pub has : HasLiteral w.clauses c l
+
+-- the same but for blockers in one row
+pub record IsBlocked (old new : Watched) (from : Lit) : Type 0 where
+  pub same_vars : new.vars ≡ old.vars
+  pub same_clauses : new.clauses ≡ old.clauses
+  pub same_pairs : new.pairs ≡ old.pairs
+  pub same_length : length (row_in new.rows from) ≡ length (row_in old.rows from)
+  pub still : (start d : ℕ) → ListsFrom start (row_in old.rows from) d → ListsFrom start (row_in new.rows from) d
+
 -- the clause at a place of the row watches the row's literal and another, and has a third one
 pub record CanMove (w : Watched) (from : Lit) (gap c : ℕ) (stay to : Lit) : Type 0 where
   pub watcher : Watcher

@@ -1,10 +1,10 @@
 ghost use Rattle.std.specs.Prelude.{◌≡◌, ◌*◌, ◌+◌, ◌-◌, ◌<◌, ◌≤◌, ◌^◌, Some, [], ◌∷◌, ◌++◌, length, take, map, slice_get, slice_set, IfOk, OnOk, OnErr};
 ghost use Rattle.clause_store.specs.Formula.{IsKnown};
 ghost use Rattle.sat_trail.specs.Packing.{place_of};
-ghost use Rattle.sat_trail.specs.Watching.{IsIndexed, IsPairOf, IsStart, WithWatched, CanMove, IsMoved, pair_of, row_of};
+ghost use Rattle.sat_trail.specs.Watching.{IsIndexed, IsPairOf, IsStart, WithWatched, CanBlock, IsBlocked, CanMove, IsMoved, pair_of, row_of};
 
 use crate::packed::Packed;
-use crate::rows::{drop_from_row, empty_rows, push_row, set_pair};
+use crate::rows::{drop_from_row, empty_rows, push_row, set_pair, set_watcher};
 use crate::watcher::{Entry, Pair, Watcher};
 use clause_store::Memory;
 use std::alloc::Global;
@@ -181,6 +181,14 @@ impl Index {
         drop_from_row(&mut self.rows, from, at);
         set_pair(&mut self.entries, clause, Pair { one: to, two: stay });
         Ok(())
+    }
+
+    /// Lets a watcher have another literal of its clause as its blocker.
+    pub fn set_blocker(&mut self, from: Packed, at: usize, clause: u32, blocker: Packed)
+        requires { CanBlock self.old from at clause blocker }
+        ensures { IsBlocked self.old self.new from }
+    {
+        set_watcher(&mut self.rows, from, at, Watcher { clause, blocker });
     }
 
     fn literals_at(&self, at: usize) -> &[Packed]

@@ -29,6 +29,10 @@ pub fn visit_row(trail: &mut Trail, index: &mut Index, at: usize) -> Result<Opti
     while place < index.row_len(from) {
         match look_at(trail, index, from, place) {
             Visit::Keep => place += 1,
+            Visit::Block { clause, blocker } => {
+                index.set_blocker(from, place, clause, blocker);
+                place += 1;
+            }
             // The row's last watcher takes the place: it is looked at next.
             Visit::Move { clause, stay, to } => {
                 index.move_watch(from, place, clause, stay, to)?;

@@ -39,6 +39,16 @@ pub fn drop_from_row(rows: &mut Vec<Vec<Watcher>>, of: Packed, at: usize)
     let _watcher = rows[of.place()].swap_remove(at);
 }
 
+/// Writes a watcher in the row of a literal.
+pub fn set_watcher(rows: &mut Vec<Vec<Watcher>>, of: Packed, at: usize, watcher: Watcher)
+    requires there { place_of of < length rows.old.items }
+    requires within { at < length (slice_index_or (map (λ r. r.items) rows.old.items) (place_of of) []) }
+    ensures { map (λ r. r.items) rows.new.items ≡ slice_set (map (λ r. r.items) rows.old.items) (place_of of) (slice_set (slice_index_or (map (λ r. r.items) rows.old.items) (place_of of) []) at watcher) }
+{
+    let row = &mut rows[of.place()];
+    row[at] = watcher;
+}
+
 /// Writes what a clause watches.
 pub fn set_pair(entries: &mut Vec<Entry>, clause: u32, pair: Pair)
     requires { clause < length entries.old.items }

@@ -3,7 +3,7 @@ ghost use Rattle.std.specs.Prelude.{◌≡◌, ◌<◌, length};
 ghost use Rattle.clause_store.specs.Formula.{IsKnown};
 ghost use Rattle.clause_store.specs.UnitRule.{MakesFalse};
 ghost use Rattle.sat_trail.specs.Paths.{value_in};
-ghost use Rattle.sat_trail.specs.Watching.{row_of};
+ghost use Rattle.sat_trail.specs.Watching.{CanMove, row_of};
 ghost use Rattle.sat_trail.specs.Visits.{IsFound, IsOther, IsVisit, MayWatch};
 
 use crate::index::Index;
@@ -17,6 +17,11 @@ use crate::watcher::Pair;
 pub enum Visit {
     /// Nothing.
     Keep,
+    /// It is true by this literal, which the next visit is to look at first.
+    Block {
+        clause: u32,
+        blocker: Packed,
+    },
     /// It watches another literal from now on.
     Move {
         clause: u32,
@@ -53,15 +58,46 @@ pub fn look_at(trail: &Trail, index: &Index, from: Packed, at: usize) -> Visit
         return Visit::Keep;
     };
     match trail.truth(stay) {
-        Truth::True => Visit::Keep,
+        Truth::True => Visit::Block {
+            clause,
+            blocker: stay,
+        },
         Truth::Open => match find_watch(trail, index.clause(clause as usize), stay) {
-            Some(to) => Visit::Move { clause, stay, to },
+            Some(to) => block_or_move(trail, index, from, at, clause, stay, to),
             None => Visit::Push { clause, lit: stay },
         },
         Truth::False => match find_watch(trail, index.clause(clause as usize), stay) {
-            Some(to) => Visit::Move { clause, stay, to },
+            Some(to) => block_or_move(trail, index, from, at, clause, stay, to),
             None => Visit::Clash { clause },
         },
+    }
+}
+
+/// What is to be done about a clause with a third literal that isn't false. Where that is true, the clause goes on to
+/// watch what it watched: steps are taken back before the watched literal is open again.
+fn block_or_move(
+    trail: &Trail,
+    index: &Index,
+    from: Packed,
+    at: usize,
+    clause: u32,
+    stay: Packed,
+    to: Packed,
+) -> Visit
+    requires vars { trail.now.vars ≡ index.now.vars }
+    requires known { from.var < index.now.vars }
+    requires can { CanMove index.now from at clause stay to }
+    requires free { MakesFalse (value_in trail.now.steps) to → ⊥ }
+    ensures { IsVisit index.now (value_in trail.now.steps) from at result }
+{
+    let _clauses = index.len();
+    match trail.truth(to) {
+        Truth::True => Visit::Block {
+            clause,
+            blocker: to,
+        },
+        Truth::Open => Visit::Move { clause, stay, to },
+        Truth::False => Visit::Move { clause, stay, to },
     }
 }
 

@@ -1,6 +1,7 @@
 use Rattle.std.proofs.Common.{◌≤◌, length, arith}
 use Rattle.sat_trail.specs.Watching.{row_in}
 use Rattle.sat_trail.proofs.RowVisits.{half-keep, half-push, half-move, half-end, half-false}
+use Rattle.sat_trail.proofs.Blocking.{half-block}
 use Rattle.sat_trail.proofs.propagate.visit_row.Goals as goal
 
 pub look_at-requires-clause-is_false : goal.look_at-requires-clause-is_false
@@ -10,6 +11,11 @@ look_at-requires-clause-is_false c =
 pub loop-place-preserved-in-Keep : goal.loop-place-preserved-in-Keep
 loop-place-preserved-in-Keep c =
     half-keep c.args.trail.now c.args.index.now c.loop-place.trail c.loop-place.index c.args.at c.opposite-from.result c.loop-place.place c.loop-place.invariant c.in-Keep.ensures
+
+pub loop-place-preserved-in-Block : goal.loop-place-preserved-in-Block
+loop-place-preserved-in-Block c =
+    half-block c.args.trail.now c.args.index.now c.loop-place.trail c.loop-place.index c.set_blocker.new.self c.args.at c.opposite-from.result c.loop-place.place
+    c.loop-place.invariant (c.in-Block.ensures).0 c.set_blocker.ensures
 
 pub loop-place-preserved-in-Continue-1 : goal.loop-place-preserved-in-Continue-1
 loop-place-preserved-in-Continue-1 c =
