@@ -79,10 +79,11 @@ fn follows_change(
     loaded: &Loaded,
     pool: &TermPool<'_>,
     followed: &Followed,
-    (thread, step, part, _held): Change,
+    tried: Change,
 ) -> Result<bool, NoRun>
     requires { followed.now.last.number < length pool.now }
 {
+    let (thread, step, part, _held) = tried;
     let rows = change(alloc, loaded.ran.rows.as_slice(), (thread, step, part))?;
     let held = holds(alloc, loaded, rows.as_slice(), loaded.ran.steps.as_slice())?;
     Ok(is_met(alloc, pool, followed, rows.as_slice())? == held)
