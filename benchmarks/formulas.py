@@ -342,7 +342,7 @@ def formulas():
         yield made(f"random-200-{seed}", scattered, 200, 800)
     for seed in "uvw":
         yield made(f"random-150-{seed}", scattered, 150, 675)
-    for count in [6, 7]:
+    for count in [6, 7, 8]:
         yield f"holes-{count}-u", lambda count=count: holes(count)
     yield made("xors-60-a", system, 60, 54, False)
     for seed in "uv":
