@@ -112,7 +112,7 @@ all_extends setting old between new facts more stands first second w t lt spells
     (second.extends e.extended t lt (record {
       spells = record { satisfies = e.satisfies; agrees = e.spells };
       is_order = spells.is_order;
-      order = order_extended setting old w e.extended lt stands e.agrees spells.order
+      order = order_extended setting old w e.extended lt stands e.agrees spells.order;
     }) (All-right (Holds setting t lt) facts more holds))
 
 pub parts_then : PartsCompose
@@ -150,7 +150,7 @@ places_later setting old new keeps stands =
             let older = places.known i j i_in j_in l e in omega (arith, older, more);
         within = places.within;
         own = places.own;
-        each = places.each
+        each = places.each;
       };
     }
 

@@ -81,8 +81,8 @@ extends s w t lt spells holds =
       spells = record {
         spells = record { satisfies = e.satisfies; agrees = e.spells };
         is_order = spells.is_order;
-        order = order_extended s.setting s.old w e.extended lt s.can.stands e.agrees spells.order
-      }
+        order = order_extended s.setting s.old w e.extended lt s.can.stands e.agrees spells.order;
+      };
     } in
     let f : Extension s.mid.clauses.vars e.extended s.after.clauses = s.adds.extends e.extended e.satisfies ((outcome_by_terms s told).1 (holds s.lr s.can.link)) in
     let more = s.encodes.keeps.grows.vars in record {
@@ -173,7 +173,7 @@ outcome_given : (s : Scene) (r : Rests s) → IsGivenBits (new_of s) r.v (acc s 
 outcome_given s r =
     let lits = lits_at s.mid.blaster.terms (acc s s.x).guard.number in
     let value : IsSome (r.v (first_literal s.mid (acc s s.x).guard.number).var) =
-        subst (λ (l : Lit). IsSome (r.v l.var)) s.built.outcome (s.adds.settles r.v r.rest.rest (all_placed s r) (same_given s r)) in record {
+    subst (λ (l : Lit). IsSome (r.v l.var)) s.built.outcome (s.adds.settles r.v r.rest.rest (all_placed s r) (same_given s r)) in record {
       built = s.built.guard;
       decided = subst (λ (xs : List Lit). DecidesAll r.v xs) (sym (one_literal lits (guard_one s)))
           (All-cons (λ (l : Lit). IsSome (r.v l.var)) (first_literal s.mid (acc s s.x).guard.number) [] value (All-nil (λ (l : Lit). IsSome (r.v l.var))));
@@ -212,7 +212,7 @@ decides s v lt rest given x from below =
     let earlier : AreGiven s.setting s.mid v = all_older s.setting s.mid (new_of s) v (mid_to_new s) given in
     let ready : IsReady s.setting s.mid v lt s.x = record {
       older = λ (y : ℕ) (there : y < length s.setting.accesses) (before : lt y s.x ≡ true). earlier y there;
-      address = (earlier s.x s.can.there).address
+      address = (earlier s.x s.can.there).address;
     } in
     elim (cases_lt x s.mid.clauses.vars) [
       | inl less ↦ s.encodes.decides v (older_at_rest s.mid.clauses s.after v s.adds.grows rest.rest) (parts_given s v earlier) x from less

@@ -184,20 +184,20 @@ are_written s r = let wide = read_length s in record {
   initial = λ (b : ℕ) (less : b < length s.reader.read).
       by_bytes (λ (n : ℕ). HasValue s r (bit_at s.reader.initial n)) s.reading.count
       (λ (j c : ℕ) (inside : j < s.reading.count) (few : c < 8).
-          subst (HasValue s r) (sym (initial_bit s j c inside few))
-          (decided_bit s r (initial_id s j) c (initial_built s j inside) (eight s (initial_id s j) (initial_built s j inside) (initial_width s j inside)) (initial_given s r j inside) few))
+      subst (HasValue s r) (sym (initial_bit s j c inside few))
+      (decided_bit s r (initial_id s j) c (initial_built s j inside) (eight s (initial_id s j) (initial_built s j inside) (initial_width s j inside)) (initial_given s r j inside) few))
       b (omega (arith, less, wide));
   bits = λ (k b : ℕ) (less_k : k < length s.reader.candidates) (less : b < length s.reader.read) (e : lt_of s r (candidate_at s.reader.candidates k).at s.reader.at ≡ true).
       let inside_k = inside_spots s k less_k in
       by_bytes (λ (n : ℕ). HasValue s r (bit_at (candidate_at s.reader.candidates k).bits n)) s.reading.count
       (λ (j c : ℕ) (inside : j < s.reading.count) (few : c < 8).
-          let there = (spot_is s k inside_k).source.there in
-          let within = byte_within s k j inside_k inside in
-          let id = written_id s (spot s k) j in
-          subst (HasValue s r) (sym (candidate_bit s j k c inside inside_k few))
-          (decided_bit s r id c (wrote s (spot s k).access ((spot s k).byte + j) there within)
-          (eight s id (wrote s (spot s k).access ((spot s k).byte + j) there within) (wrote_width s (spot s k).access ((spot s k).byte + j) there within))
-          ((older s r k inside_k e).writes ((spot s k).byte + j) within) few))
+      let there = (spot_is s k inside_k).source.there in
+      let within = byte_within s k j inside_k inside in
+      let id = written_id s (spot s k) j in
+      subst (HasValue s r) (sym (candidate_bit s j k c inside inside_k few))
+      (decided_bit s r id c (wrote s (spot s k).access ((spot s k).byte + j) there within)
+      (eight s id (wrote s (spot s k).access ((spot s k).byte + j) there within) (wrote_width s (spot s k).access ((spot s k).byte + j) there within))
+      ((older s r k inside_k e).writes ((spot s k).byte + j) within) few))
       b (omega (arith, less, wide));
 }
 

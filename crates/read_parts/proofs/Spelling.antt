@@ -189,16 +189,19 @@ covered : (s : Scene) (told : Told s) (j : ℕ) → j < s.reading.count
 covered s told j less z m there within before hit =
     let fits = part_many s j in let values = same_values s told.t j less in
     let moved : hits told.t s.setting.nodes (acc s z) m (acc s s.reading.access) (s.reading.index + j) ≡ true =
-        sym (same_hits told.t s.mid.pool s.setting.nodes s.setting.accesses s.reading.access (s.reading.index + j) z m (s.reading.index + j) values there) ∙ hit in
+    sym (same_hits told.t s.mid.pool s.setting.nodes s.setting.accesses s.reading.access (s.reading.index + j) z m (s.reading.index + j) values there) ∙ hit in
     let found = s.can.covered j less told.t told.lt told.spells.is_order z m there within before moved in
     let inside = found.1 in (
       found.0,
       omega (arith, inside, fits),
       elim found.2 [
         | inl same ↦ inl same
-        | inr hidden ↦ inr (hidden.0, hidden.1,
-            same_hits told.t s.mid.pool s.setting.nodes s.setting.accesses s.reading.access (s.reading.index + j) (spot s found.0).access ((spot s found.0).byte + j) (s.reading.index + j)
-            values (spot_is s found.0 inside).source.there ∙ hidden.2)
+        | inr hidden ↦ inr (
+          hidden.0,
+          hidden.1,
+          same_hits told.t s.mid.pool s.setting.nodes s.setting.accesses s.reading.access (s.reading.index + j) (spot s found.0).access ((spot s found.0).byte + j) (s.reading.index + j)
+              values (spot_is s found.0 inside).source.there ∙ hidden.2,
+        )
       ],
     )
 
@@ -235,9 +238,9 @@ listed_between s told i k less_i less_k same e =
     let at_k : (candidate_at s.reader.candidates k).at ≡ place_at s k = (s.built.candidates.each k less_k).at ∙ (spot_is s k less_k).at in
     let one : (candidate_at s.reader.candidates i).at ≡ (candidate_at s.reader.candidates k).at = at_i ∙ ap s.setting.places.place same ∙ sym at_k in
     let is : spelled told.w (cond (nat_lt i k) order_lit.Always order_lit.Never) ≡ true =
-        sym (ap (λ (found : Bool). spelled told.w (cond found (cond (nat_lt i k) order_lit.Always order_lit.Never)
-        (lit_in table (candidate_at s.reader.candidates i).at (candidate_at s.reader.candidates k).at)))
-        (eq-eqb (candidate_at s.reader.candidates i).at (candidate_at s.reader.candidates k).at one)) ∙ e in
+    sym (ap (λ (found : Bool). spelled told.w (cond found (cond (nat_lt i k) order_lit.Always order_lit.Never)
+    (lit_in table (candidate_at s.reader.candidates i).at (candidate_at s.reader.candidates k).at)))
+    (eq-eqb (candidate_at s.reader.candidates i).at (candidate_at s.reader.candidates k).at one)) ∙ e in
     ltb-true i k (spelled_cond told.w (nat_lt i k) is)
   where
     spelled_cond : (w : Assignment) (b : Bool) → spelled w (cond b order_lit.Always order_lit.Never) ≡ true → b ≡ true
@@ -312,6 +315,6 @@ spells_strict s told = record {
   from_lt : (a b : ℕ) → a < count → b < count → told.lt (places.access a) (places.access b) ≡ true → known_before count lit (all_given told.w) a b ≡ true
   from_lt a b a_in b_in up =
       let differ : a ≢ b = λ (same : a ≡ b).
-          false≢true (sym (told.spells.is_order.strict.irreflexive (places.access a)) ∙ subst (λ (n : ℕ). told.lt (places.access a) (places.access n) ≡ true) (sym same) up) in
+      false≢true (sym (told.spells.is_order.strict.irreflexive (places.access a)) ∙ subst (λ (n : ℕ). told.lt (places.access a) (places.access n) ≡ true) (sym same) up) in
       known-from count lit (all_given told.w) a b
       (record { left = a_in; right = b_in; differ = differ; known = known_spelled told.w (lit a b) ∙ spelled_at a b a_in b_in differ ∙ up })

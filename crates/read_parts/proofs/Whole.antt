@@ -75,8 +75,8 @@ extends s w t lt spells holds =
       spells = record {
         spells = record { satisfies = e.satisfies; agrees = e.spells };
         is_order = spells.is_order;
-        order = order_extended s.setting s.old w e.extended lt s.can.stands e.agrees spells.order
-      }
+        order = order_extended s.setting s.old w e.extended lt s.can.stands e.agrees spells.order;
+      };
     } in
     let sees = (reader_sees s told).1 (λ (j : ℕ) (less : j < s.reading.count). read_of_all (Holds s.setting t lt) s.reading.access s.reading.index s.reading.count j holds less) in
     let f : Extension s.mid.clauses.vars e.extended s.after.clauses = s.adds.extends e.extended e.satisfies sees in
@@ -93,7 +93,7 @@ gives : (s : Scene) (v : Partial) (lt : ℕ → ℕ → Bool) → AtRest s.setti
 gives s v lt rest =
     all_reads (Gives s.setting (new_of s) v lt) s.reading.access s.reading.index s.reading.count
     (λ (j : ℕ) (less : j < s.reading.count) (ready : IsReady s.setting (new_of s) v lt s.reading.access).
-        reads_given s (record { v = v; lt = lt; rest = rest; ready = ready_older s.setting s.mid (new_of s) v lt s.reading.access (mid_to_new s) ready }) j less)
+    reads_given s (record { v = v; lt = lt; rest = rest; ready = ready_older s.setting s.mid (new_of s) v lt s.reading.access (mid_to_new s) ready }) j less)
 
 -- the terms of a run are given where all terms of a list are
 run_given : (s : Scene) (v : Partial) (ids : List TermId) (first count : ℕ) → first + count ≤ length ids

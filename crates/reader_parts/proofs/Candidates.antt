@@ -73,7 +73,7 @@ made_more old mid new image address index count ids id term before after are mad
     | inr above ↦ let last : j ≡ count = omega (arith, less, above) in
         let place : j ≡ length ids + 0 = omega (arith, last, many) in
         let there : term_in (ids ++ id ∷ []) j ≡ id.number =
-            ap (λ (n : ℕ). term_in (ids ++ id ∷ []) n) place ∙ ap (λ (x : TermId). x.number) (get_or-append-add ids (id ∷ []) 0 no_id) in
+        ap (λ (n : ℕ). term_in (ids ++ id ∷ []) n) place ∙ ap (λ (x : TermId). x.number) (get_or-append-add ids (id ∷ []) 0 no_id) in
         subst (IsMade old new (address ∷ []) 8 (λ t. opening_byte image (value_at t old address) (index + j))) (sym there)
         (subst (λ (n : ℕ). IsMade old new (address ∷ []) 8 (λ t. opening_byte image (value_at t old address) (index + n)) id.number) (sym last)
         (made_after old mid new address 8 32 (λ (a : ℕ). opening_byte image a (index + count)) id.number before term made))
@@ -215,4 +215,4 @@ encodes_reader old one two pool new accesses reading spots image ids first secon
     (encodes_then one two new (read_parts accesses reading) (address ∷ []) second
     (encodes_by two new (numbers ids) (address ∷ [])
     (λ (v : Partial) (given : AllVariablesDecided new v (address ∷ [])).
-        initial_decided old.pool new v image address reading.index reading.count ids keeps now given) last))
+    initial_decided old.pool new v image address reading.index reading.count ids keeps now given) last))

@@ -50,7 +50,7 @@ value_of_node : (w : TermAssignment) (nodes : List Shape) (id : ℕ) (node : Sha
 unfolding value_at
 value_of_node w nodes id node value found e =
     let is : get_or (gathered (next_term w) nodes) id (record { width = 0; value = 0 }) ≡ next_term w (gathered (next_term w) (take id nodes)) node =
-        gathered-get (next_term w) nodes id node (record { width = 0; value = 0 }) found in
+    gathered-get (next_term w) nodes id node (record { width = 0; value = 0 }) found in
     ap (λ (v : BitVector). v.value) is ∙ constant_node w (known_term (gathered (next_term w) (take id nodes))) node value e
 
 constant_value : (w : TermAssignment) (nodes : List Shape) (id value : ℕ) → constant_at nodes id ≡ Some value → value_at w nodes id ≡ value

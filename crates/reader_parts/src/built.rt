@@ -41,7 +41,13 @@ pub fn built_reader<'a, R: Rewrite>(
 {
     let access = &accesses[reading.access];
     let candidates = candidates_of(encoder, alloc, book, accesses, reading, spots)?;
-    let read = run_bits(encoder, alloc, access.reads.as_slice(), reading.index, reading.count)?;
+    let read = run_bits(
+        encoder,
+        alloc,
+        access.reads.as_slice(),
+        reading.index,
+        reading.count,
+    )?;
     let terms = initial_terms(
         &mut encoder.pool,
         alloc,

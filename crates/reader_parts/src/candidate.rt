@@ -35,8 +35,22 @@ fn candidate_of<R: Rewrite>(
 {
     let writer = &accesses[spot.access];
     let reader = &accesses[reading.access];
-    let hit = hit_condition(encoder, alloc, book, writer, spot.byte, reader, reading.index)?;
-    let bits = run_bits(encoder, alloc, writer.writes.as_slice(), spot.byte, reading.count)?;
+    let hit = hit_condition(
+        encoder,
+        alloc,
+        book,
+        writer,
+        spot.byte,
+        reader,
+        reading.index,
+    )?;
+    let bits = run_bits(
+        encoder,
+        alloc,
+        writer.writes.as_slice(),
+        spot.byte,
+        reading.count,
+    )?;
     Ok(Candidate {
         at: spot.at,
         hit,

@@ -127,7 +127,7 @@ decides s v lt rest given x from below =
     let earlier : AreGiven s.setting s.mid v = all_older s.setting s.mid (new_of s) v (mid_to_new s) given in
     let ready : IsReady s.setting s.mid v lt s.x = record {
       older = λ (y : ℕ) (there : y < length s.setting.accesses) (before : lt y s.x ≡ true). earlier y there;
-      address = (earlier s.x s.is.there).address
+      address = (earlier s.x s.is.there).address;
     } in
     let same = s.adds.vars in
     s.encodes.decides v (older_at_rest s.mid.clauses s.after v s.adds.grows rest.rest)
