@@ -1,6 +1,6 @@
-mod Passing
-mod Counts
-mod Standing
-mod Weaving
-mod Ends
-mod Totals
+pub mod Passing
+pub mod Counts
+pub mod Standing
+pub mod Weaving
+pub mod Ends
+pub mod Totals

@@ -33,7 +33,7 @@ abbrev is_in : Pos → List Pos → Bool
 is_in p [] = false
 is_in p (x ∷ xs) = is_step x p || is_in p xs
 
-abbrev stands : List Pos → Pos → Pos → Bool
+abbrev pub stands : List Pos → Pos → Pos → Bool
 stands [] p q = false
 stands (x ∷ xs) p q = (is_step x p && is_in q xs) || stands xs p q
 
@@ -69,12 +69,12 @@ test_in p (x ∷ xs) e = elim (or_either (is_step x p) (is_in p xs) e) [
   | inr later ↦ inr (test_in p xs later)
 ]
 
-stands_test : (xs : List Pos) (p q : Pos) → Stands xs p q → stands xs p q ≡ true
+pub stands_test : (xs : List Pos) (p q : Pos) → Stands xs p q → stands xs p q ≡ true
 stands_test [] p q s = absurd s
 stands_test (x ∷ xs) p q (inl s) = or_left (is_step x p && is_in q xs) (stands xs p q) (and_from _ _ (step_test x p s.0) (in_test q xs s.1))
 stands_test (x ∷ xs) p q (inr s) = or_right (is_step x p && is_in q xs) (stands xs p q) (stands_test xs p q s)
 
-test_stands : (xs : List Pos) (p q : Pos) → stands xs p q ≡ true → Stands xs p q
+pub test_stands : (xs : List Pos) (p q : Pos) → stands xs p q ≡ true → Stands xs p q
 test_stands [] p q e = absurd (false≢true e)
 test_stands (x ∷ xs) p q e = elim (or_either (is_step x p && is_in q xs) (stands xs p q) e) [
   | inl both ↦ (let parts : (is_step x p ≡ true) × (is_in q xs ≡ true) = and_parts _ _ both in inl (test_step x p parts.0, test_in q xs parts.1))

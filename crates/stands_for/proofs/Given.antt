@@ -1,6 +1,6 @@
 -- Along an order of accesses the unit rule gives each its variables.
-use Rattle.std.specs.Prelude.{◌≡◌, ◌⊎◌, ℕ, zero, suc, ◌+◌, ◌<◌, ◌≤◌, Bool, true, false, IsSome, List, [], ◌∷◌, All, Contains, length, map, slice_get, slice_index_or, Option, Some, None, is_some}
-use Rattle.std.proofs.Common.{get_or, sym, ◌∙◌, ap, subst, refl, inl, inr, arith}
+use Rattle.std.specs.Prelude.{◌≡◌, ℕ, zero, suc, ◌<◌, Bool, true, false, List, All, Contains, length, slice_get, slice_index_or, Option, Some, None, is_some}
+use Rattle.std.proofs.Common.{sym, ◌∙◌, ap, subst, refl, inl, inr, arith}
 use Rattle.std.proofs.lemmas.Bool.{false≢true}
 use Rattle.std.proofs.lemmas.Option.{none-some}
 use Rattle.std.proofs.lemmas.List.Elements.{All-contains}
@@ -9,7 +9,7 @@ use Rattle.rv32_decode.specs.declared.instr.Instr.{Instr}
 use Rattle.rv32_decode.specs.declared.instr.Instr.TheVariants as instr
 use Rattle.rv_model.specs.declared.state.Note.{Note}
 use Rattle.rv_model.specs.declared.state.Note.TheVariants as note
-use Rattle.rv_model.specs.RecordedOrder.{Counted, RecordedOrder}
+use Rattle.rv_model.specs.RecordedOrder.{RecordedOrder}
 use Rattle.rv_model.specs.Walk.{Walk}
 use Rattle.bv_terms.specs.declared.node.TermId.{TermId}
 use Rattle.odr_log.specs.declared.log.Call.TheVariants as call
@@ -22,7 +22,6 @@ use Rattle.clause_store.proofs.Members.{All-from_contains}
 use Rattle.order_clauses.proofs.Counts.{count-lt, count_below}
 use Rattle.bit_clauses.specs.Bits.{AreOfVariable, HasBits, first_of, run}
 use Rattle.bit_clauses.specs.Circuit.{DecidesAll}
-use Rattle.bit_clauses.specs.Nodes.{lits_at}
 use Rattle.encoder.specs.declared.encoder.Encoder.{Encoder}
 use Rattle.encoder.proofs.Encoding.{get_or_any, terms_then}
 use Rattle.guided_walk.specs.Told.{noted, told}
@@ -34,14 +33,14 @@ use Rattle.access_terms.proofs.Own.{of_constant, of_variable}
 use Rattle.step_terms.specs.Made.{IsTerm}
 use Rattle.walk_orders.proofs.RecordedOrder.{recorded_law}
 use Rattle.path_exec.specs.declared.paths.Paths.{Paths}
-use Rattle.path_exec.specs.Paths.{ArePaths, IsListed, IsOfEarlier, IsOfEarlierOr, IsOfOne, is_conditional}
+use Rattle.path_exec.specs.Paths.{IsListed, IsOfEarlier, IsOfEarlierOr, IsOfOne, is_conditional}
 use Rattle.term_sources.specs.Sees.{access_at, no_access, no_id}
 use Rattle.formula_parts.specs.Order.{Setting}
 use Rattle.formula_parts.specs.Facts.{AreGiven, Fact, Gives, Is, IsGivenAccess, IsGivenBits, IsGivenFact, IsGivenTerm, IsReady, Reads, Succeeds}
 use Rattle.formula_parts.specs.Parts.{AtRest}
 use Rattle.formula_parts.proofs.Composing.{places_later}
 use Rattle.stands_for.specs.Decides.{OrderDecidesAll, OrderGivesAccesses}
-use Rattle.stands_for.specs.Whole.{IsOfConstraints, IsWhole}
+use Rattle.stands_for.specs.Whole.{IsFactOf, IsWhole}
 
 pub record Scene : Type 0 where
   pub setting : Setting
@@ -100,7 +99,7 @@ earlier_decided : (s : Scene) (x : ℕ) → x < count s → Before s x → (widt
 earlier_decided s x there before width number of =
     let found = number_of s of.access of.listed in
     let recorded : RecordedOrder s.setting.log of.access.pos (acc s x).pos =
-    (recorded_law s.setting.image s.setting.log s.walk s.whole.is_walk s.whole.fits).flow of.access.pos (acc s x).pos (of.flows (listed s x there).counted) in
+        (recorded_law s.setting.image s.setting.log s.walk s.whole.is_walk s.whole.fits).flow of.access.pos (acc s x).pos (of.flows (listed s x there).counted) in
     let older : s.lt found.0 x ≡ true = flows_before s x found.0 there found.1 (subst (λ (a : Access). RecordedOrder s.setting.log a.pos (acc s x).pos) (sym found.2) recorded) in
     before found.0 found.1 older width number (subst (λ (a : Access). IsOf a width number) (sym found.2) of.is)
 
@@ -236,7 +235,7 @@ read_decided s x i w n there within before wide same first found =
     let of_byte = byte_number (acc s x).pos.thread (acc s x).pos.step i in
     let given : IsGivenBits s.last s.v (slice_index_or (acc s x).reads i no_id).number = fact_gives s (Reads x i) (s.whole.all.reads x i there within) (ready s x there before) in
     let there_too : first_of s.last.blaster.variables 8 of_byte ≡ Some first =
-    sym (ap (λ (k : ℕ). first_of s.last.blaster.variables k of_byte) wide) ∙ sym (ap (λ (k : ℕ). first_of s.last.blaster.variables w k) same) ∙ found in
+        sym (ap (λ (k : ℕ). first_of s.last.blaster.variables k of_byte) wide) ∙ sym (ap (λ (k : ℕ). first_of s.last.blaster.variables w k) same) ∙ found in
     subst (λ (k : ℕ). DecidesAll s.v (run first k)) (sym wide)
     (variable_lits s (slice_index_or (acc s x).reads i no_id).number 8 of_byte first ((listed s x there).reads i within).term.inside (read_variable s x i there within) given there_too)
 
@@ -278,7 +277,7 @@ outcome_decided s x w n there before linked wide same first found = by_link (acc
   by_link (Some lr) e some =
       let given : IsGivenBits s.last s.v (guard_id s x) = fact_gives s (Succeeds x) (s.whole.all.outcomes x lr there e) lr e (ready s x there before) in
       let there_too : first_of s.last.blaster.variables 1 (own_number s x) ≡ Some first =
-      sym (ap (λ (k : ℕ). first_of s.last.blaster.variables k (own_number s x)) wide) ∙ sym (ap (λ (k : ℕ). first_of s.last.blaster.variables w k) same) ∙ found in
+          sym (ap (λ (k : ℕ). first_of s.last.blaster.variables k (own_number s x)) wide) ∙ sym (ap (λ (k : ℕ). first_of s.last.blaster.variables w k) same) ∙ found in
       subst (λ (k : ℕ). DecidesAll s.v (run first k)) (sym wide)
       (variable_lits s (guard_id s x) 1 (own_number s x) first (listed s x there).guard_bit.inside (outcome_node s x lr there e) given there_too)
 
@@ -316,10 +315,10 @@ constraint_given s id there =
     let from = All-contains (λ (k : TermId). HasVariables (IsOfOne s.paths.accesses) s.setting.nodes k.number) s.paths.constraints id s.whole.paths_are.constraints_from there in
     term_given s (IsOfOne s.paths.accesses) id.number bit.inside from
     (λ (w n : ℕ) (of : IsOfOne s.paths.accesses w n).
-    let found = number_of s of.access (subst (λ (accesses : List Access). Contains accesses of.access) (sym s.whole.accesses_are) of.listed) in
-    all_own s found.0 found.1 w n (subst (λ (a : Access). IsOf a w n) (sym found.2) of.is))
+        let found = number_of s of.access (subst (λ (accesses : List Access). Contains accesses of.access) (sym s.whole.accesses_are) of.listed) in
+        all_own s found.0 found.1 w n (subst (λ (a : Access). IsOf a w n) (sym found.2) of.is))
 
-fact_given : (s : Scene) (fact : Fact) → IsOfConstraints s.paths.constraints fact → IsGivenFact s.last s.v fact
+fact_given : (s : Scene) (fact : Fact) → IsFactOf s.setting s.paths.constraints fact → IsGivenFact s.last s.v fact
 fact_given s (Reads x i) of = tt
 fact_given s (Succeeds x) of = tt
 fact_given s (Is term) of = subst (IsGivenTerm s.last s.v) of.2 (constraint_given s of.0 of.1)
@@ -327,7 +326,7 @@ fact_given s (Is term) of = subst (IsGivenTerm s.last s.v) of.2 (constraint_give
 facts_given : (s : Scene) → All (IsGivenFact s.last s.v) s.facts
 facts_given s =
     All-from_contains (IsGivenFact s.last s.v) s.facts
-    (λ (fact : Fact) (there : Contains s.facts fact). fact_given s fact (All-contains (IsOfConstraints s.paths.constraints) s.facts fact s.whole.all.only there))
+    (λ (fact : Fact) (there : Contains s.facts fact). fact_given s fact (All-contains (IsFactOf s.setting s.paths.constraints) s.facts fact s.whole.all.only there))
 
 abbrev scene_of : (setting : Setting) (walk : Walk) (paths : Paths) (base last : Encoder) (facts : List Fact) → IsWhole setting walk paths base last facts
     → (v : Partial) (lt : ℕ → ℕ → Bool) → AtRest setting last v lt → Scene

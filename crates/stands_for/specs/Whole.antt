@@ -11,18 +11,18 @@ use Rattle.formula_parts.specs.Order.{Setting}
 use Rattle.formula_parts.specs.Facts.{Fact, Is, Reads, Succeeds}
 use Rattle.formula_parts.specs.Parts.{Adds, StandsOn}
 
--- a term of a fact is one of these constraints
-abbrev pub IsOfConstraints : List TermId → Fact → Type 0
-IsOfConstraints constraints (Reads x i) = Unit {0}
-IsOfConstraints constraints (Succeeds x) = Unit {0}
-IsOfConstraints constraints (Is term) = (id : TermId) × Contains constraints id × (id.number ≡ term)
+-- the fact is of a byte that an access reads, of an access, or of one of these constraints
+abbrev pub IsFactOf : Setting → List TermId → Fact → Type 0
+IsFactOf setting constraints (Reads x i) = (x < length setting.accesses) × (i < length (access_at setting.accesses x).reads)
+IsFactOf setting constraints (Succeeds x) = x < length setting.accesses
+IsFactOf setting constraints (Is term) = (id : TermId) × Contains constraints id × (id.number ≡ term)
 
 -- The facts are those of all bytes that accesses read, of all store-conditionals that look back, and of all constraints.
 pub record AreAllFacts (setting : Setting) (constraints : List TermId) (facts : List Fact) : Type 0 where
   pub reads : (x i : ℕ) → x < length setting.accesses → i < length (access_at setting.accesses x).reads → Contains facts (Reads x i)
   pub outcomes : (x lr : ℕ) → x < length setting.accesses → (access_at setting.accesses x).link ≡ Some lr → Contains facts (Succeeds x)
   pub constraints_are : (id : TermId) → Contains constraints id → Contains facts (Is id.number)
-  pub only : All (IsOfConstraints constraints) facts
+  pub only : All (IsFactOf setting constraints) facts
 
 -- The accesses of symbolic paths, and what was added for all of them to an encoder that stands on their terms and their order.
 pub record IsWhole (setting : Setting) (walk : Walk) (paths : Paths) (base last : Encoder) (facts : List Fact) : Type 0 where
