@@ -43,7 +43,8 @@ pub fn drop_from_row(rows: &mut Vec<Vec<Watcher>>, of: Packed, at: usize)
 pub fn set_watcher(rows: &mut Vec<Vec<Watcher>>, of: Packed, at: usize, watcher: Watcher)
     requires there { place_of of < length rows.old.items }
     requires within { at < length (slice_index_or (map (λ r. r.items) rows.old.items) (place_of of) []) }
-    ensures { map (λ r. r.items) rows.new.items ≡ slice_set (map (λ r. r.items) rows.old.items) (place_of of) (slice_set (slice_index_or (map (λ r. r.items) rows.old.items) (place_of of) []) at watcher) }
+    ensures { map (λ r. r.items) rows.new.items ≡ slice_set (map (λ r. r.items) rows.old.items) (place_of of)
+        (slice_set (slice_index_or (map (λ r. r.items) rows.old.items) (place_of of) []) at watcher) }
 {
     let row = &mut rows[of.place()];
     row[at] = watcher;
