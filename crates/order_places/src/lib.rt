@@ -3,5 +3,7 @@
 
 pub mod law;
 pub mod places;
+#[cfg(test)]
+mod tests;
 
 pub use odr_list::memory::Memory;
