@@ -3,14 +3,12 @@ use Rattle.std.specs.Prelude.{◌≡◌, ℕ, ◌+◌, ◌<◌, ◌≤◌, List,
 use Rattle.std.proofs.Common.{sym, ◌∙◌, ap, subst, arith, inl, inr, get_or}
 use Rattle.std.proofs.lemmas.Bool.{cases_lt}
 use Rattle.std.proofs.lemmas.Option.{slice_get-get_or}
-use Rattle.odr_log.specs.declared.log.Call.{Call}
 use Rattle.odr_log.specs.declared.log.Call.TheVariants as call
 use Rattle.odr_log.specs.declared.log.CallRec.{CallRec}
 use Rattle.odr_log.specs.declared.log.Log.{Log}
 use Rattle.odr_log.specs.declared.log.Pos.{Pos}
 use Rattle.rv_model.specs.RecordedOrder.{Counted}
 use Rattle.rv_model.specs.Run.{logged}
-use Rattle.guided_walk.specs.Ordered.{IsExit}
 use Rattle.schedule_extract.specs.Going.{ExitsEnd}
 use Rattle.schedule_rows.specs.Fitting.{HasSteps}
 

@@ -1,17 +1,16 @@
 -- The place of a step in a list orders the steps, so that a list that has all in order shows that pairs can be woven.
-use Rattle.std.specs.Prelude.{◌≡◌, ℕ, zero, suc, ◌+◌, ◌<◌, ◌≤◌, Bool, true, false, ◌&&◌, cond, List, [], ◌∷◌, length, nat_eq, nat_lt, slice_index_or, Contains, if◌then◌else◌, refl}
+use Rattle.std.specs.Prelude.{◌≡◌, ℕ, zero, suc, ◌+◌, ◌<◌, Bool, true, false, ◌&&◌, cond, List, [], ◌∷◌, length, nat_eq, nat_lt, Contains, if◌then◌else◌, refl}
 use Rattle.std.proofs.Common.{sym, ◌∙◌, ap, subst, arith, inl, inr, get_or, eq-eqb}
 use Rattle.std.proofs.lemmas.Bool.{and_from, and_parts, cases_lt, eqb-true, false≢true, lt-ltb, ltb-true}
 use Rattle.std.proofs.lemmas.List.{get_or_default}
 use Rattle.odr_log.specs.declared.log.Log.{Log}
 use Rattle.odr_log.specs.declared.log.Pos.{Pos}
-use Rattle.rv_model.specs.RecordedOrder.{Counted, RecordedOrder}
+use Rattle.rv_model.specs.RecordedOrder.{Counted}
 use Rattle.rv_model.specs.Run.{logged}
-use Rattle.guided_walk.specs.Law.{holds}
 use Rattle.guided_walk.specs.Ordered.{IsExit}
 use Rattle.guided_walk.proofs.Table.{same_pos}
 use Rattle.walk_orders.proofs.Weaving.{from_counted, to_counted}
-use Rattle.schedule_extract.specs.Going.{ExitsEnd, NoRing, Precedes}
+use Rattle.schedule_extract.specs.Going.{ExitsEnd, Precedes}
 use Rattle.schedule_extract.specs.Law.{CanBeWoven}
 use Rattle.schedule_rows.specs.Fitting.{AreInOrder, GoesOn}
 
