@@ -99,7 +99,7 @@ earlier_decided : (s : Scene) (x : ℕ) → x < count s → Before s x → (widt
 earlier_decided s x there before width number of =
     let found = number_of s of.access of.listed in
     let recorded : RecordedOrder s.setting.log of.access.pos (acc s x).pos =
-        (recorded_law s.setting.image s.setting.log s.walk s.whole.is_walk s.whole.fits).flow of.access.pos (acc s x).pos (of.flows (listed s x there).counted) in
+    (recorded_law s.setting.image s.setting.log s.walk s.whole.is_walk s.whole.fits).flow of.access.pos (acc s x).pos (of.flows (listed s x there).counted) in
     let older : s.lt found.0 x ≡ true = flows_before s x found.0 there found.1 (subst (λ (a : Access). RecordedOrder s.setting.log a.pos (acc s x).pos) (sym found.2) recorded) in
     before found.0 found.1 older width number (subst (λ (a : Access). IsOf a width number) (sym found.2) of.is)
 
@@ -235,7 +235,7 @@ read_decided s x i w n there within before wide same first found =
     let of_byte = byte_number (acc s x).pos.thread (acc s x).pos.step i in
     let given : IsGivenBits s.last s.v (slice_index_or (acc s x).reads i no_id).number = fact_gives s (Reads x i) (s.whole.all.reads x i there within) (ready s x there before) in
     let there_too : first_of s.last.blaster.variables 8 of_byte ≡ Some first =
-        sym (ap (λ (k : ℕ). first_of s.last.blaster.variables k of_byte) wide) ∙ sym (ap (λ (k : ℕ). first_of s.last.blaster.variables w k) same) ∙ found in
+    sym (ap (λ (k : ℕ). first_of s.last.blaster.variables k of_byte) wide) ∙ sym (ap (λ (k : ℕ). first_of s.last.blaster.variables w k) same) ∙ found in
     subst (λ (k : ℕ). DecidesAll s.v (run first k)) (sym wide)
     (variable_lits s (slice_index_or (acc s x).reads i no_id).number 8 of_byte first ((listed s x there).reads i within).term.inside (read_variable s x i there within) given there_too)
 
@@ -277,7 +277,7 @@ outcome_decided s x w n there before linked wide same first found = by_link (acc
   by_link (Some lr) e some =
       let given : IsGivenBits s.last s.v (guard_id s x) = fact_gives s (Succeeds x) (s.whole.all.outcomes x lr there e) lr e (ready s x there before) in
       let there_too : first_of s.last.blaster.variables 1 (own_number s x) ≡ Some first =
-          sym (ap (λ (k : ℕ). first_of s.last.blaster.variables k (own_number s x)) wide) ∙ sym (ap (λ (k : ℕ). first_of s.last.blaster.variables w k) same) ∙ found in
+      sym (ap (λ (k : ℕ). first_of s.last.blaster.variables k (own_number s x)) wide) ∙ sym (ap (λ (k : ℕ). first_of s.last.blaster.variables w k) same) ∙ found in
       subst (λ (k : ℕ). DecidesAll s.v (run first k)) (sym wide)
       (variable_lits s (guard_id s x) 1 (own_number s x) first (listed s x there).guard_bit.inside (outcome_node s x lr there e) given there_too)
 
@@ -315,8 +315,8 @@ constraint_given s id there =
     let from = All-contains (λ (k : TermId). HasVariables (IsOfOne s.paths.accesses) s.setting.nodes k.number) s.paths.constraints id s.whole.paths_are.constraints_from there in
     term_given s (IsOfOne s.paths.accesses) id.number bit.inside from
     (λ (w n : ℕ) (of : IsOfOne s.paths.accesses w n).
-        let found = number_of s of.access (subst (λ (accesses : List Access). Contains accesses of.access) (sym s.whole.accesses_are) of.listed) in
-        all_own s found.0 found.1 w n (subst (λ (a : Access). IsOf a w n) (sym found.2) of.is))
+    let found = number_of s of.access (subst (λ (accesses : List Access). Contains accesses of.access) (sym s.whole.accesses_are) of.listed) in
+    all_own s found.0 found.1 w n (subst (λ (a : Access). IsOf a w n) (sym found.2) of.is))
 
 fact_given : (s : Scene) (fact : Fact) → IsFactOf s.setting s.paths.constraints fact → IsGivenFact s.last s.v fact
 fact_given s (Reads x i) of = tt

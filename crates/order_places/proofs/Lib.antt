@@ -1,4 +1,0 @@
-pub mod Placed
-pub mod Merged
-pub mod Decided
-pub mod Telling
