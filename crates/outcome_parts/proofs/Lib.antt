@@ -1,2 +1,4 @@
 pub mod Succeeding
 pub mod Whole
+pub mod Reaching
+pub mod Building

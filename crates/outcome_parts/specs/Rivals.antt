@@ -4,6 +4,7 @@ use Rattle.bv_terms.specs.Shapes.{Shape}
 use Rattle.bv_terms.specs.Values.{Assignment as TermAssignment}
 use Rattle.clause_store.specs.declared.lit.Lit.{Lit}
 use Rattle.order_clauses.specs.declared.order_lit.OrderLit.TheVariants as order_lit
+use Rattle.order_clauses.specs.Grid.{IsKnownOrder}
 use Rattle.outcome_clauses.specs.declared.store_conditional.Ender.{Ender}
 use Rattle.outcome_clauses.specs.declared.store_conditional.StoreConditional.{StoreConditional}
 use Rattle.bit_clauses.specs.Bits.{IsBuilt}
@@ -19,10 +20,20 @@ use Rattle.outcome_parts.specs.declared.rival.Rival.{Rival}
 abbrev pub rival_at : List Rival → ℕ → Rival
 rival_at rivals k = get_or rivals k (record { access = 0; after = order_lit.Always; before = order_lit.Always })
 
+-- it is one of so many accesses, and the literals of its order are of so many variables
+pub record KnowsRival (vars count : ℕ) (rival : Rival) : Type 0 where
+  pub there : rival.access < count
+  pub after : IsKnownOrder vars rival.after
+  pub before : IsKnownOrder vars rival.before
+
 -- an access writes to the word at another one's address
 abbrev pub touches : TermAssignment → List Shape → (writer reserved : Access) → Bool
 touches t nodes writer reserved =
     is_touch (guard_value t nodes writer) (length writer.writes) (address_value t nodes writer) (address_value t nodes reserved)
+
+-- two accesses have one address
+abbrev pub have_same_address : TermAssignment → List Shape → (first second : Access) → Bool
+have_same_address t nodes first second = nat_eq (address_value t nodes first) (address_value t nodes second)
 
 -- ---- the terms that a store-conditional stands on
 

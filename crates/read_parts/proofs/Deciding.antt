@@ -1,12 +1,11 @@
 -- What the unit rule gives of a reader by what stands before its access in an order.
-use Rattle.std.specs.Prelude.{◌≡◌, ◌≢◌, ◌⊎◌, ℕ, ◌+◌, ◌*◌, ◌/◌, ◌%◌, ◌<◌, ◌≤◌, Bool, true, IsSome, List, [], ◌∷◌, All, length, get_or, slice_index_or, Contains}
-use Rattle.std.proofs.Common.{false, sym, ◌∙◌, ap, subst, refl, inl, inr, arith}
+use Rattle.std.specs.Prelude.{◌≡◌, ◌≢◌, ◌⊎◌, ℕ, ◌+◌, ◌*◌, ◌/◌, ◌%◌, ◌<◌, Bool, true, IsSome, [], ◌∷◌, length, Contains}
+use Rattle.std.proofs.Common.{false, sym, ◌∙◌, ap, subst, inl, inr, arith}
 use Rattle.std.proofs.lemmas.List.Elements.{Contains-get_or}
 use Rattle.clause_store.specs.declared.lit.Lit.{Lit}
 use Rattle.clause_store.specs.UnitRule.{Partial, AllAtRest}
 use Rattle.clause_store.proofs.Growth.{older_at_rest}
 use Rattle.clause_store.proofs.Members.{Contains-cons_cases, Contains-nil}
-use Rattle.order_clauses.specs.declared.table.Table.{Table}
 use Rattle.order_clauses.specs.Grid.{lit_in}
 use Rattle.order_clauses.specs.Orders.{IsStrict}
 use Rattle.source_clauses.specs.Conditions.{IsDecided}
@@ -14,16 +13,15 @@ use Rattle.source_clauses.specs.Contract.{AreWritten, IsPlaced}
 use Rattle.source_clauses.specs.Sees.{bit_at, candidate_at}
 use Rattle.bit_clauses.specs.Bits.{HasBits, IsBuilt}
 use Rattle.encoder.specs.Encodes.{AllVariablesDecided}
-use Rattle.encoder.proofs.Encoding.{get_or_any, terms_then}
+use Rattle.encoder.proofs.Encoding.{get_or_any}
 use Rattle.formula_parts.specs.Order.{IsAt}
 use Rattle.formula_parts.specs.Facts.{IsGivenAccess, IsGivenBits, IsGivenTerm, IsReady}
 use Rattle.formula_parts.specs.Parts.{AtRest}
 use Rattle.formula_parts.proofs.Required.{decided_of_one}
-use Rattle.reader_parts.specs.Conditions.{hit_parts}
 use Rattle.reader_parts.proofs.Candidates.{initial_decided}
 use Rattle.step_terms.specs.Bytes.{numbers}
 use Rattle.read_parts.proofs.Pieces.{numbers_at, numbers_length}
-use Rattle.read_parts.proofs.Scenes.{Scene, acc, byte_within, initial_built, initial_id, initial_width, lits_of, mid_to_new, new_of, read_built, read_eight, read_id, read_width, spot, spot_is, wrote, wrote_width, written_id, eight}
+use Rattle.read_parts.proofs.Scenes.{Scene, acc, byte_within, initial_built, initial_id, initial_width, lits_of, new_of, read_built, read_eight, read_id, spot, spot_is, wrote, wrote_width, written_id, eight}
 use Rattle.read_parts.proofs.Spelling.{candidate_bit, initial_bit, many, place_at, read_bit, read_length}
 
 pub record Rests (s : Scene) : Type 0 where

@@ -1,6 +1,9 @@
 pub mod Pieces
+pub mod Eights
+pub mod Knowing
 pub mod Moving
 pub mod Scenes
 pub mod Spelling
 pub mod Deciding
 pub mod Whole
+pub mod Adding

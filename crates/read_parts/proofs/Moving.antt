@@ -1,14 +1,14 @@
 -- What accesses see, where the nodes of their terms are among others.
-use Rattle.std.specs.Prelude.{◌≡◌, ◌≢◌, ℕ, ◌+◌, ◌<◌, ◌%◌, ◌^◌, ◌&&◌, Bool, true, false, nat_eq, List, length, slice_index_or}
-use Rattle.std.proofs.Common.{sym, ◌∙◌, ap, subst, refl, inl, inr, arith}
-use Rattle.std.proofs.lemmas.Bool.{cases_eq, eq-eqb, eqb-true, ne_eqb}
+use Rattle.std.specs.Prelude.{◌≡◌, ◌≢◌, ℕ, ◌+◌, ◌<◌, ◌%◌, ◌^◌, ◌&&◌, Bool, true, nat_eq, List, length}
+use Rattle.std.proofs.Common.{sym, ◌∙◌, ap, inl, inr, arith}
+use Rattle.std.proofs.lemmas.Bool.{cases_eq, eq-eqb, ne_eqb}
 use Rattle.elf_image.specs.Layout.{Layout}
 use Rattle.elf_image.specs.Memory.{byte_in, opening_cells}
 use Rattle.bv_terms.specs.Shapes.{Shape}
 use Rattle.bv_terms.specs.Values.{Assignment as TermAssignment}
 use Rattle.thread_terms.specs.declared.access.Access.{Access}
 use Rattle.hit_terms.specs.Hits.{is_hit, is_same_place, place_of}
-use Rattle.term_sources.specs.Sees.{SeesAt, SeesInitial, SeesWrite, access_at, address_value, guard_value, hits, value_of}
+use Rattle.term_sources.specs.Sees.{SeesAt, access_at, address_value, guard_value, hits, value_of}
 
 -- the terms of accesses have the same values among two lists of nodes
 pub record SameValues (t : TermAssignment) (p q : List Shape) (accesses : List Access) (x i : ℕ) : Type 0 where

@@ -1,11 +1,10 @@
 -- The bits of terms one after another, and the reader of each byte of a reading.
 use Rattle.std.specs.Prelude.{◌≡◌, ℕ, zero, suc, ◌+◌, ◌*◌, ◌<◌, List, [], ◌∷◌, ◌++◌, length, get_or, slice_index_or}
-use Rattle.std.proofs.Common.{false, sym, ◌∙◌, ap, subst, refl, inl, inr, arith}
+use Rattle.std.proofs.Common.{false, sym, ◌∙◌, ap, refl, inl, inr, arith}
 use Rattle.std.proofs.lemmas.Bool.{cases_lt}
 use Rattle.std.proofs.lemmas.List.{get_or_append_left, get_or-append-add, length-append}
 use Rattle.bv_terms.specs.declared.node.TermId.{TermId}
 use Rattle.clause_store.specs.declared.lit.Lit.{Lit}
-use Rattle.order_clauses.specs.declared.order_lit.OrderLit.{OrderLit}
 use Rattle.source_clauses.specs.declared.reader.Candidate.{Candidate}
 use Rattle.source_clauses.specs.Sees.{bit_at, candidate_at}
 use Rattle.bit_clauses.specs.Nodes.{lits_at}

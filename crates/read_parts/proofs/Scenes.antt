@@ -1,17 +1,15 @@
 -- All that is known of a reader that was built, and of its terms.
-use Rattle.std.specs.Prelude.{◌≡◌, ◌≢◌, ℕ, ◌+◌, ◌*◌, ◌<◌, ◌≤◌, List, length, slice_index_or, Contains}
-use Rattle.std.proofs.Common.{sym, ◌∙◌, ap, subst, refl, arith}
-use Rattle.std.proofs.lemmas.List.Elements.{Contains-get_or}
-use Rattle.bv_terms.specs.Shapes.{Shape}
-use Rattle.bv_terms.specs.Values.{KeepsTerms, value_at, width_at}
+use Rattle.std.specs.Prelude.{◌≡◌, ℕ, ◌+◌, ◌<◌, List, length, slice_index_or}
+use Rattle.std.proofs.Common.{arith}
+use Rattle.bv_terms.specs.Values.{KeepsTerms, width_at}
 use Rattle.bv_terms.specs.Values.{Assignment as TermAssignment}
 use Rattle.clause_store.specs.declared.lit.Lit.{Lit}
 use Rattle.clause_store.specs.Formula.{Formula}
 use Rattle.source_clauses.specs.declared.reader.Reader.{Reader}
 use Rattle.source_clauses.specs.Contract.{AddsReader}
-use Rattle.bit_clauses.specs.Bits.{HasBits, IsBuilt}
+use Rattle.bit_clauses.specs.Bits.{IsBuilt}
 use Rattle.bit_clauses.specs.Nodes.{lits_at}
-use Rattle.bit_clauses.proofs.Blasted.{built_later, keeps_none}
+use Rattle.bit_clauses.proofs.Blasted.{keeps_none}
 use Rattle.bit_clauses.proofs.Sure.{known_later}
 use Rattle.encoder.specs.declared.encoder.Encoder.{Encoder}
 use Rattle.encoder.specs.Encodes.{Encodes, Keeps}
@@ -23,11 +21,13 @@ use Rattle.formula_parts.specs.Order.{Setting}
 use Rattle.reader_parts.specs.declared.reading.Reading.{Reading}
 use Rattle.reader_parts.specs.declared.reading.Spot.{Spot}
 use Rattle.reader_parts.specs.Conditions.{HasTerms}
-use Rattle.reader_parts.specs.Readings.{IsBuiltReader, read_parts, reader_parts, run_of, spot_at, term_in, written_parts}
+use Rattle.reader_parts.specs.Readings.{IsBuiltReader, read_parts, reader_parts, spot_at, term_in, written_parts}
 use Rattle.reader_parts.proofs.Candidates.{terms_of}
 use Rattle.read_parts.specs.Reads.{CanRead, IsSpot}
+use Rattle.read_parts.proofs.Eights.{byte_lits}
+use Rattle.read_parts.proofs.Knowing.{Built, initial_byte, initial_eights as first_eights, read_byte, read_eights as reading_eights, written_byte, written_eights as spot_eights}
 use Rattle.read_parts.proofs.Moving.{SameValues}
-use Rattle.read_parts.proofs.Pieces.{AreEights, number_in, numbers_at, numbers_length, run_at, run_length}
+use Rattle.read_parts.proofs.Pieces.{AreEights}
 
 pub record Scene : Type 0 where
   pub setting : Setting
@@ -114,60 +114,48 @@ same_values s t j less = record {
 
 -- ---- literals
 
+abbrev pub built_of : Scene → Built
+built_of s = record {
+  setting = s.setting;
+  old = s.old;
+  mid = s.mid;
+  reading = s.reading;
+  spots = s.spots;
+  reader = s.reader;
+  can = s.can;
+  encodes = s.encodes;
+  built = s.built;
+}
+
 pub wrote : (s : Scene) (y m : ℕ) → y < length s.setting.accesses → m < length (acc s y).writes → IsBuilt s.mid.blaster (slice_index_or (acc s y).writes m no_id).number
-wrote s y m there within = built_later s.old.blaster s.mid.blaster (slice_index_or (acc s y).writes m no_id).number s.encodes.keeps.bits (s.can.written y m there within).0
+wrote s y m there within = (written_byte (built_of s) y m there within).built
 
 pub wrote_width : (s : Scene) (y m : ℕ) → y < length s.setting.accesses → m < length (acc s y).writes → width_at s.mid.pool (slice_index_or (acc s y).writes m no_id).number ≡ 8
-wrote_width s y m there within =
-    let inside = written_inside s y m there within in let longer = (keeps_old s).grows in
-    s.encodes.keeps.terms.width (slice_index_or (acc s y).writes m no_id).number (omega (arith, inside, longer)) ∙ (s.can.written y m there within).1
+wrote_width s y m there within = (written_byte (built_of s) y m there within).width
 
 pub eight : (s : Scene) (id : ℕ) → IsBuilt s.mid.blaster id → width_at s.mid.pool id ≡ 8 → length (lits_of s id) ≡ 8
-eight s id built wide = let has : HasBits s.mid.blaster s.mid.pool s.mid.clauses id = s.encodes.keeps.known.terms id built in has.count ∙ wide
+eight s id built wide = byte_lits s.mid id s.encodes.keeps.known (record { built = built; width = wide })
 
 pub written_eights : (s : Scene) (k : ℕ) → k < length s.spots → AreEights s.mid.blaster.terms (written_parts s.setting.accesses s.reading (spot s k))
-written_eights s k less j inside =
-    let one = spot s k in let writes = (acc s one.access).writes in
-    let many = run_length writes one.byte s.reading.count in
-    let below : j < s.reading.count = omega (arith, inside, many) in
-    let there = (spot_is s k less).source.there in
-    subst (λ (id : ℕ). length (lits_of s id) ≡ 8) (sym (run_at writes one.byte s.reading.count j below))
-    (eight s (written_id s one j) (wrote s one.access (one.byte + j) there (byte_within s k j less below)) (wrote_width s one.access (one.byte + j) there (byte_within s k j less below)))
+written_eights s k less = spot_eights (built_of s) k less
 
 pub read_built : (s : Scene) (j : ℕ) → j < s.reading.count → IsBuilt s.mid.blaster (read_id s j)
-read_built s j less =
-    let reads = (acc s s.reading.access).reads in
-    let many = run_length reads s.reading.index s.reading.count in
-    s.built.read.built (read_id s j)
-    (subst (Contains (read_parts s.setting.accesses s.reading)) (run_at reads s.reading.index s.reading.count j less)
-    (Contains-get_or (read_parts s.setting.accesses s.reading) j 0 (omega (arith, less, many))))
+read_built s j less = (read_byte (built_of s) j less).built
 
 pub read_width : (s : Scene) (j : ℕ) → j < s.reading.count → width_at s.mid.pool (read_id s j) ≡ 8
-read_width s j less = (keeps_mid s).width (read_id s j) (s.can.bytes j less).inside ∙ (s.can.bytes j less).width
+read_width s j less = (read_byte (built_of s) j less).width
 
 pub read_eight : (s : Scene) (j : ℕ) → j < s.reading.count → length (lits_of s (read_id s j)) ≡ 8
-read_eight s j less = eight s (read_id s j) (read_built s j less) (read_width s j less)
+read_eight s j less = byte_lits s.mid (read_id s j) s.encodes.keeps.known (read_byte (built_of s) j less)
 
 pub read_eights : (s : Scene) → AreEights s.mid.blaster.terms (read_parts s.setting.accesses s.reading)
-read_eights s j inside =
-    let reads = (acc s s.reading.access).reads in
-    let many = run_length reads s.reading.index s.reading.count in
-    let below : j < s.reading.count = omega (arith, inside, many) in
-    subst (λ (id : ℕ). length (lits_of s id) ≡ 8) (sym (run_at reads s.reading.index s.reading.count j below)) (read_eight s j below)
+read_eights s = reading_eights (built_of s)
 
 pub initial_built : (s : Scene) (j : ℕ) → j < s.reading.count → IsBuilt s.mid.blaster (initial_id s j)
-initial_built s j less =
-    let many = s.built.made.many in let wide = numbers_length s.built.terms in
-    s.built.initial.built (initial_id s j)
-    (subst (Contains (numbers s.built.terms)) (numbers_at s.built.terms j (omega (arith, less, many)))
-    (Contains-get_or (numbers s.built.terms) j 0 (omega (arith, less, many, wide))))
+initial_built s j less = (initial_byte (built_of s) j less).built
 
 pub initial_width : (s : Scene) (j : ℕ) → j < s.reading.count → width_at s.mid.pool (initial_id s j) ≡ 8
-initial_width s j less = (s.built.made.each j less).term.width
+initial_width s j less = (initial_byte (built_of s) j less).width
 
 pub initial_eights : (s : Scene) → AreEights s.mid.blaster.terms (numbers s.built.terms)
-initial_eights s j inside =
-    let many = s.built.made.many in let wide = numbers_length s.built.terms in
-    let below : j < s.reading.count = omega (arith, inside, many, wide) in
-    subst (λ (id : ℕ). length (lits_of s id) ≡ 8) (sym (numbers_at s.built.terms j (omega (arith, inside, wide))))
-    (eight s (initial_id s j) (initial_built s j below) (initial_width s j below))
+initial_eights s = first_eights (built_of s)

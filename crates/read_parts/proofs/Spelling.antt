@@ -1,27 +1,22 @@
 -- A built reader sees the newest of its candidates exactly where each of its bytes is what the access sees.
-use Rattle.std.specs.Prelude.{◌≡◌, ◌≢◌, ◌⊎◌, ◌↔◌, ℕ, ◌+◌, ◌*◌, ◌<◌, ◌≤◌, Bool, true, false, cond, nat_eq, nat_lt, List, length, slice_index_or}
+use Rattle.std.specs.Prelude.{◌≡◌, ◌≢◌, ◌↔◌, ℕ, ◌+◌, ◌*◌, ◌<◌, Bool, true, false, cond, nat_eq, nat_lt, List, length}
 use Rattle.std.proofs.Common.{sym, ◌∙◌, ap, subst, refl, inl, inr, arith}
-use Rattle.std.proofs.lemmas.Bool.{cases_eq, cases_lt, eq-eqb, false≢true, false_from_ne_true, lt-ltb, ltb-true, ne_eqb}
-use Rattle.bv_terms.specs.Values.{value_at}
+use Rattle.std.proofs.lemmas.Bool.{cases_eq, eq-eqb, false≢true, false_from_ne_true, ltb-true, ne_eqb}
 use Rattle.bv_terms.specs.Values.{Assignment as TermAssignment}
 use Rattle.clause_store.specs.declared.lit.Lit.{Lit}
 use Rattle.clause_store.specs.Literals.{Assignment}
 use Rattle.order_clauses.specs.declared.order_lit.OrderLit.{OrderLit}
 use Rattle.order_clauses.specs.declared.order_lit.OrderLit.TheVariants as order_lit
 use Rattle.order_clauses.specs.Grid.{lit_in}
-use Rattle.order_clauses.specs.Literals.{all_given, is_known, known_before, spelled}
-use Rattle.order_clauses.specs.Orders.{IsStrict}
+use Rattle.order_clauses.specs.Literals.{all_given, known_before, spelled}
 use Rattle.order_clauses.proofs.Known.{Known, known-from, known-parts, known_spelled}
 use Rattle.source_clauses.specs.declared.reader.Reader.{Reader}
 use Rattle.source_clauses.specs.Contract.{SpellsStrict}
 use Rattle.source_clauses.specs.Sees.{SeesNewest, between, bit_at, candidate_at}
-use Rattle.encoder.specs.Encodes.{IsKnown, Spells}
-use Rattle.encoder.specs.Encodes.{joined}
+use Rattle.encoder.specs.Encodes.{Spells}
 use Rattle.step_terms.specs.Bytes.{numbers}
-use Rattle.hit_terms.specs.Hits.{place_of}
-use Rattle.elf_image.specs.Memory.{byte_in, opening_cells}
-use Rattle.term_sources.specs.Sees.{SeesAt, access_at, address_value, hits, no_id}
-use Rattle.read_clauses.specs.Readers.{AreBitsOf, AreWritten, IsCandidate, IsCovered, IsReaderOf, IsSpelledOrder}
+use Rattle.term_sources.specs.Sees.{SeesAt, hits}
+use Rattle.read_clauses.specs.Readers.{AreWritten, IsCandidate, IsCovered, IsReaderOf, IsSpelledOrder}
 use Rattle.read_clauses.specs.Together.{IsOneWay, IsPart}
 use Rattle.read_clauses.proofs.Joining.{bytes_together}
 use Rattle.read_clauses.proofs.Seeing.{readers_see}
@@ -31,8 +26,9 @@ use Rattle.reader_parts.specs.declared.reading.Spot.{Spot}
 use Rattle.reader_parts.specs.Readings.{opening_byte, read_parts, written_parts}
 use Rattle.reader_parts.proofs.Candidates.{hits_earlier}
 use Rattle.read_parts.proofs.Moving.{hits_far, same_hits, sees_moved, values_back}
-use Rattle.read_parts.proofs.Pieces.{joined_bit, joined_length, numbers_at, numbers_length, pieces, pieces_bits, pieces_hit, pieces_length, pieces_place, run_at, run_length}
-use Rattle.read_parts.proofs.Scenes.{Scene, acc, byte_within, has_at, initial_built, initial_eights, initial_id, initial_width, keeps_mid, keeps_old, lits_of, read_built, read_eight, read_eights, read_id, read_width, same_values, spot, spot_is, wrote, wrote_width, written_eights, written_id}
+use Rattle.read_parts.proofs.Pieces.{joined_bit, numbers_at, numbers_length, pieces, pieces_bits, pieces_hit, pieces_length, pieces_place, run_at, run_length}
+use Rattle.read_parts.proofs.Knowing.{read_width as read_width_of}
+use Rattle.read_parts.proofs.Scenes.{Scene, acc, built_of, byte_within, has_at, initial_built, initial_eights, initial_id, initial_width, keeps_mid, keeps_old, lits_of, read_built, read_eight, read_eights, read_id, read_width, same_values, spot, spot_is, wrote, wrote_width, written_eights, written_id}
 
 -- ---- the reader of each byte
 
@@ -97,11 +93,7 @@ is_part s j less = record {
 }
 
 pub read_length : (s : Scene) → length s.reader.read ≡ 8 * s.reading.count
-read_length s =
-    let long = run_length (acc s s.reading.access).reads s.reading.index s.reading.count in
-    let wide = joined_length s.mid.blaster.terms (read_parts s.setting.accesses s.reading) (read_eights s) in
-    let same : length s.reader.read ≡ length (joined s.mid.blaster.terms (read_parts s.setting.accesses s.reading)) = ap (length {A = Lit}) s.built.read.are in
-    omega (arith, long, wide, same)
+read_length s = read_width_of (built_of s)
 
 -- ---- by terms
 

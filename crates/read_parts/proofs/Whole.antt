@@ -1,33 +1,29 @@
 -- The clauses of a built reader are a part.
-use Rattle.std.specs.Prelude.{◌≡◌, ℕ, zero, suc, ◌+◌, ◌<◌, ◌≤◌, Bool, true, IsSome, List, [], ◌∷◌, ◌++◌, All, length, slice_index_or, Contains}
-use Rattle.std.proofs.Common.{sym, ◌∙◌, ap, subst, refl, inl, inr, arith}
+use Rattle.std.specs.Prelude.{◌≡◌, ℕ, zero, suc, ◌+◌, ◌<◌, ◌≤◌, Bool, true, IsSome, List, [], ◌∷◌, ◌++◌, All, length, slice_index_or}
+use Rattle.std.proofs.Common.{sym, ◌∙◌, subst, inl, inr, arith}
 use Rattle.std.proofs.lemmas.Bool.{cases_lt}
 use Rattle.std.proofs.lemmas.List.Elements.{All-contains, All-nil, All-push, Contains-append_cases}
 use Rattle.bv_terms.specs.Values.{Assignment as TermAssignment}
 use Rattle.clause_store.specs.Literals.{Assignment}
 use Rattle.clause_store.specs.Formula.{Extension}
-use Rattle.clause_store.specs.UnitRule.{Partial, AllAtRest}
+use Rattle.clause_store.specs.UnitRule.{Partial}
 use Rattle.clause_store.proofs.Growth.{older_at_rest}
 use Rattle.clause_store.proofs.Members.{All-left, All-right, Contains-cons_cases, Contains-head, Contains-nil}
 use Rattle.bv_terms.specs.declared.node.TermId.{TermId}
 use Rattle.encoder.proofs.Encoding.{one_of}
 use Rattle.term_sources.specs.Sees.{no_id}
-use Rattle.bit_clauses.specs.Bits.{Agrees, TermExtension, first_of, run}
-use Rattle.bit_clauses.specs.Spelled.{spelled}
+use Rattle.bit_clauses.specs.Bits.{Agrees, TermExtension, run}
 use Rattle.bit_clauses.proofs.Blasted.{run_known, spelled_agrees}
-use Rattle.encoder.specs.declared.encoder.Encoder.{Encoder}
-use Rattle.encoder.specs.Encodes.{AllVariablesDecided, IsKnown}
-use Rattle.formula_parts.specs.Order.{Setting}
+use Rattle.encoder.specs.Encodes.{AllVariablesDecided}
 use Rattle.formula_parts.specs.Facts.{AreGiven, Fact, Gives, Holds, IsGivenFact, IsGivenTerm, IsReady, Reads}
 use Rattle.formula_parts.specs.Parts.{Adds, AtRest, SpellsAll}
 use Rattle.formula_parts.proofs.Composing.{all_older, order_extended, ready_older, spells_later}
 use Rattle.reader_parts.specs.declared.reading.Spot.{Spot}
 use Rattle.reader_parts.specs.Conditions.{hit_parts}
-use Rattle.reader_parts.specs.Readings.{all_spot_parts, read_parts, reader_parts, run_of, spot_at, spot_parts, written_parts}
+use Rattle.reader_parts.specs.Readings.{all_spot_parts, read_parts, reader_parts, run_of, spot_parts, written_parts}
 use Rattle.read_parts.specs.Reads.{IsSpot, ReadersAreParts, reads_from, reads_of}
 use Rattle.read_parts.proofs.Deciding.{Rests, lt_of, placed, reads_given}
-use Rattle.read_parts.proofs.Pieces.{number_in, run_at, run_length}
-use Rattle.read_parts.proofs.Scenes.{Scene, acc, keeps_all, mid_to_new, new_of, read_within, spot, spot_is}
+use Rattle.read_parts.proofs.Scenes.{Scene, acc, keeps_all, mid_to_new, new_of}
 use Rattle.read_parts.proofs.Spelling.{SeesAll, Told, reader_sees, spells_strict}
 
 -- ---- the facts of a reading

@@ -2,6 +2,9 @@
 use Rattle.std.specs.Prelude.{◌≡◌, ◌≢◌, ◌⊎◌, ℕ, zero, suc, ◌+◌, ◌<◌, Bool, true, List, [], ◌∷◌, ◌++◌, All, length, slice_index_or}
 use Rattle.bv_terms.specs.Values.{Assignment as TermAssignment}
 use Rattle.clause_store.specs.Formula.{Formula}
+use Rattle.elf_image.specs.Layout.{Layout}
+use Rattle.order_clauses.specs.declared.table.Table.{Table}
+use Rattle.thread_terms.specs.declared.access.Access.{Access}
 use Rattle.source_clauses.specs.declared.reader.Reader.{Reader}
 use Rattle.source_clauses.specs.Contract.{AddsReader}
 use Rattle.encoder.specs.declared.encoder.Encoder.{Encoder}
@@ -76,3 +79,17 @@ ReadersAreParts =
     → IsBuiltReader old.pool mid setting.image setting.accesses reading spots reader
     → AddsReader mid.clauses after setting.places.table reader
     → Adds setting old (record mid { clauses = after }) (reads_of reading)
+
+-- ---- settings that a caller has
+
+-- a setting is one of an image, of accesses and of a table
+pub record IsSettingOf (setting : Setting) (image : Layout) (accesses : List Access) (table : Table) : Type 0 where
+  pub image_is : setting.image ≡ image
+  pub accesses_are : setting.accesses ≡ accesses
+  pub table_is : setting.places.table ≡ table
+
+-- some bytes can be read in a setting
+pub record CanBeRead (image : Layout) (accesses : List Access) (table : Table) (encoder : Encoder) (reading : Reading) (spots : List Spot) : Type 0 where
+  pub setting : Setting
+  pub is : IsSettingOf setting image accesses table
+  pub can : CanRead setting encoder reading spots

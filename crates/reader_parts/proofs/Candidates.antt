@@ -1,14 +1,14 @@
 -- Candidates and readers that are built one thing after another.
-use Rattle.std.specs.Prelude.{◌≡◌, ℕ, zero, suc, ◌+◌, ◌<◌, ◌≤◌, Bool, true, false, nat_eq, List, [], ◌∷◌, ◌++◌, All, Contains, length, take, get_or, slice_index_or}
+use Rattle.std.specs.Prelude.{◌≡◌, ℕ, zero, suc, ◌+◌, ◌<◌, Bool, true, false, nat_eq, List, [], ◌∷◌, ◌++◌, All, Contains, length}
 use Rattle.std.proofs.Common.{sym, ◌∙◌, ap, subst, refl, inl, inr, arith}
 use Rattle.std.proofs.lemmas.Bool.{cases_lt}
 use Rattle.std.proofs.lemmas.List.{append_assoc, get_or_append_left, get_or-append-add, length-append}
-use Rattle.std.proofs.lemmas.List.Elements.{All-contains, Contains-push_cases}
 use Rattle.bv_terms.specs.BitVectors.{bit_of}
 use Rattle.bv_terms.specs.declared.node.TermId.{TermId}
 use Rattle.bv_terms.specs.Shapes.{Shape}
 use Rattle.bv_terms.specs.Values.{KeepsTerms, value_at}
 use Rattle.bv_terms.specs.Values.{Assignment as TermAssignment}
+use Rattle.clause_store.specs.declared.lit.Lit.{Lit}
 use Rattle.clause_store.specs.UnitRule.{Partial}
 use Rattle.order_clauses.specs.declared.order_lit.OrderLit.{OrderLit}
 use Rattle.source_clauses.specs.declared.reader.Candidate.{Candidate}
@@ -16,17 +16,17 @@ use Rattle.source_clauses.specs.Sees.{candidate_at}
 use Rattle.elf_image.specs.Layout.{Layout}
 use Rattle.encoder.specs.declared.encoder.Encoder.{Encoder}
 use Rattle.encoder.specs.Encodes.{AllVariablesDecided, Encodes, IsKnown, IsTest, Keeps}
-use Rattle.encoder.proofs.Encoding.{encodes_then, get_or_any, one_of, take_more}
+use Rattle.encoder.proofs.Encoding.{encodes_none, encodes_then}
 use Rattle.step_terms.specs.Bytes.{numbers}
 use Rattle.step_terms.specs.Made.{Grows, IsMade, IsTerm}
-use Rattle.step_terms.proofs.Making.{grows_on, grows_same, later, made_after}
+use Rattle.step_terms.proofs.Making.{grows_same, later, made_after}
 use Rattle.thread_terms.specs.declared.access.Access.{Access}
 use Rattle.hit_terms.specs.Hits.{is_hit}
 use Rattle.term_sources.specs.Sees.{access_at, hits, no_access, no_id}
 use Rattle.reader_parts.specs.declared.reading.Reading.{Reading}
 use Rattle.reader_parts.specs.declared.reading.Spot.{Spot}
 use Rattle.reader_parts.specs.Conditions.{HasTerms, IsCondition, hit_parts}
-use Rattle.reader_parts.specs.Readings.{AreCandidatesOf, AreLiterals, AreMadeInitial, IsBuiltReader, IsCandidateOf, all_spot_parts, opening_byte, reader_parts, read_parts, run_of, spot_at, spot_parts, term_in, written_parts}
+use Rattle.reader_parts.specs.Readings.{AreCandidatesOf, AreLiterals, AreMadeInitial, IsCandidateOf, all_spot_parts, opening_byte, reader_parts, read_parts, run_of, spot_at, spot_parts, term_in, written_parts}
 use Rattle.reader_parts.proofs.Later.{condition_later, condition_reworded, encodes_by, grown, literals_later, made_decided}
 use Rattle.reader_parts.proofs.Testing.{tests_are_conditions}
 
@@ -196,6 +196,35 @@ one_more old now new accesses reading spots spot candidates candidate terms ther
         ];
       };
     }
+
+pub none_yet : (old : Encoder) (accesses : List Access) (reading : Reading) → IsKnown old → SoFar old old accesses reading [] []
+none_yet old accesses reading known = record {
+  encodes = encodes_none old [] known;
+  are = record { count = refl; each = λ (k : ℕ) (less : k < 0). absurd (omega (arith, less)) };
+}
+
+-- a candidate whose access was looked up
+pub candidate_made : (old mid new : Encoder) (accesses : List Access) (reading : Reading) (spot : Spot) (writer reader : Access) (hit : OrderLit) (bits : List Lit)
+    → writer ≡ access_at accesses spot.access → reader ≡ access_at accesses reading.access → Encodes old mid (hit_parts writer reader)
+    → Encodes mid new (run_of writer.writes spot.byte reading.count)
+    → IsCondition mid (hit_parts writer reader) (λ t. hits t old.pool writer spot.byte reader reading.index) hit
+    → AreLiterals new (run_of writer.writes spot.byte reading.count) bits
+    → Encodes old new (spot_parts accesses reading spot) × IsCandidateOf old.pool new accesses reading spot (record { at = spot.at; hit = hit; bits = bits })
+candidate_made old mid new accesses reading spot writer reader hit bits is_writer is_reader first second condition literals =
+    let w = access_at accesses spot.access in let r = access_at accesses reading.access in
+    let first_is : Encodes old mid (hit_parts w r) =
+    subst (λ (a : Access). Encodes old mid (hit_parts a r)) is_writer (subst (λ (b : Access). Encodes old mid (hit_parts writer b)) is_reader first) in
+    let second_is : Encodes mid new (written_parts accesses reading spot) = subst (λ (a : Access). Encodes mid new (run_of a.writes spot.byte reading.count)) is_writer second in
+    let condition_is : IsCondition mid (hit_parts w r) (λ t. hits t old.pool w spot.byte r reading.index) hit =
+    subst (λ (a : Access). IsCondition mid (hit_parts a r) (λ t. hits t old.pool a spot.byte r reading.index) hit) is_writer
+    (subst (λ (b : Access). IsCondition mid (hit_parts writer b) (λ t. hits t old.pool writer spot.byte b reading.index) hit) is_reader condition) in (
+      encodes_then old mid new (hit_parts w r) (written_parts accesses reading spot) first_is second_is,
+      record {
+        at = refl;
+        bits = subst (λ (a : Access). AreLiterals new (run_of a.writes spot.byte reading.count) bits) is_writer literals;
+        hit = condition_later mid new (hit_parts w r) (λ t. hits t old.pool w spot.byte r reading.index) hit second_is.keeps condition_is;
+      },
+    )
 
 -- ---- the reader
 

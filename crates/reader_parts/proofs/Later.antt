@@ -1,5 +1,5 @@
 -- What was built stays where more is added.
-use Rattle.std.specs.Prelude.{◌≡◌, ◌⊎◌, ℕ, ◌<◌, ◌≤◌, Bool, List, [], ◌∷◌, ◌++◌, All, Contains, length}
+use Rattle.std.specs.Prelude.{◌≡◌, ℕ, ◌<◌, ◌≤◌, Bool, List, [], ◌∷◌, All, Contains, length}
 use Rattle.std.proofs.Common.{sym, ◌∙◌, subst, refl, inl, inr, arith}
 use Rattle.std.proofs.lemmas.List.Elements.{All-contains}
 use Rattle.bv_terms.specs.declared.node.TermId.{TermId}
@@ -14,15 +14,12 @@ use Rattle.clause_store.proofs.Growth.{older_at_rest}
 use Rattle.clause_store.proofs.Members.{All-from_contains, Contains-head, Contains-tail}
 use Rattle.order_clauses.specs.declared.order_lit.OrderLit.{OrderLit}
 use Rattle.order_clauses.specs.declared.order_lit.OrderLit.TheVariants as order_lit
-use Rattle.order_clauses.specs.Literals.{spelled}
-use Rattle.bit_clauses.specs.Bits.{TermExtension}
 use Rattle.bit_clauses.proofs.Blasted.{built_later, keeps_none}
 use Rattle.bit_clauses.proofs.Sure.{known_later}
 use Rattle.encoder.specs.declared.encoder.Encoder.{Encoder}
-use Rattle.encoder.specs.Encodes.{AllVariablesDecided, AreBuilt, Encodes, IsKnown, Keeps, Spells, joined}
+use Rattle.encoder.specs.Encodes.{AllVariablesDecided, Encodes, IsKnown, Keeps, Spells}
 use Rattle.encoder.proofs.Encoding.{all_older, grows_none, joined_later, occurs_more, one_of, spells_older}
-use Rattle.step_terms.specs.Made.{Grows, IsMade, IsTerm, OccursAmong}
-use Rattle.step_terms.proofs.Making.{stays}
+use Rattle.step_terms.specs.Made.{Grows, IsMade, OccursAmong}
 use Rattle.thread_terms.specs.declared.access.Access.{Access}
 use Rattle.reader_parts.specs.Conditions.{HasTerms, IsCondition}
 use Rattle.reader_parts.specs.Readings.{AreLiterals}

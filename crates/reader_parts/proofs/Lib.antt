@@ -1,3 +1,4 @@
 pub mod Testing
 pub mod Later
 pub mod Candidates
+pub mod Building

@@ -1,6 +1,6 @@
 -- A test of a term of one bit is a condition that the variables of the term decide.
-use Rattle.std.specs.Prelude.{◌≡◌, ℕ, zero, suc, ◌+◌, ◌*◌, ◌<◌, Bool, true, false, nat_eq, if◌then◌else◌, List, [], ◌∷◌, length, slice_get, slice_index_or, Option, Some, None, option_and_then, Contains}
-use Rattle.std.proofs.Common.{get_or, take, sym, ◌∙◌, ap, subst, refl, inl, inr, arith}
+use Rattle.std.specs.Prelude.{◌≡◌, ℕ, ◌+◌, ◌*◌, ◌<◌, Bool, true, false, nat_eq, if◌then◌else◌, List, [], ◌∷◌, length, slice_get, slice_index_or, Option, Some, None, option_and_then, Contains}
+use Rattle.std.proofs.Common.{get_or, take, sym, ◌∙◌, ap, subst, refl, arith}
 use Rattle.std.proofs.lemmas.List.Elements.{All-contains}
 use Rattle.std.proofs.lemmas.Bool.{false≢true}
 use Rattle.std.proofs.lemmas.Option.{none-some}
@@ -12,8 +12,7 @@ use Rattle.bv_terms.specs.Values.{Assignment as TermAssignment}
 use Rattle.bv_terms.proofs.Gathered.{gathered-get}
 use Rattle.clause_store.specs.declared.lit.Lit.{Lit}
 use Rattle.clause_store.specs.Literals.{Assignment, literal_value}
-use Rattle.clause_store.specs.Formula.{IsKnown as AreKnown}
-use Rattle.clause_store.specs.UnitRule.{Partial, AllAtRest, IsGiven}
+use Rattle.clause_store.specs.UnitRule.{Partial, AllAtRest}
 use Rattle.clause_store.proofs.Members.{Contains-head}
 use Rattle.clause_store.proofs.Rooting.{given_from_value}
 use Rattle.order_clauses.specs.declared.order_lit.OrderLit.{OrderLit}
@@ -21,8 +20,8 @@ use Rattle.order_clauses.specs.declared.order_lit.OrderLit.TheVariants as order_
 use Rattle.order_clauses.specs.Grid.{IsKnownOrder}
 use Rattle.order_clauses.specs.Literals.{spelled}
 use Rattle.source_clauses.specs.Conditions.{IsDecided}
-use Rattle.bit_clauses.specs.Bits.{HasBits, IsBuilt}
-use Rattle.bit_clauses.specs.Circuit.{Decides, DecidesAll}
+use Rattle.bit_clauses.specs.Bits.{HasBits}
+use Rattle.bit_clauses.specs.Circuit.{Decides}
 use Rattle.bit_clauses.specs.Nodes.{lits_at}
 use Rattle.bit_clauses.specs.Spelled.{spelled as number_of}
 use Rattle.encoder.specs.declared.encoder.Encoder.{Encoder}

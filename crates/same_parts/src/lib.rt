@@ -2,5 +2,7 @@
 #![tactic(auto)]
 
 mod law;
+pub mod same;
 
 pub use law::{initial_bytes_are_sources, same_bytes_are_parts, writes_are_sources};
+pub use odr_list::memory::Memory;

@@ -10,6 +10,7 @@ use Rattle.rv32_decode.specs.declared.instr.Instr.TheVariants as instr
 use Rattle.rv_model.specs.declared.state.Note.{Note}
 use Rattle.rv_model.specs.declared.state.Note.TheVariants as note
 use Rattle.rv_model.specs.RecordedOrder.{RecordedOrder}
+use Rattle.odr_log.specs.declared.log.Log.{Log}
 use Rattle.rv_model.specs.Walk.{Walk}
 use Rattle.bv_terms.specs.declared.node.TermId.{TermId}
 use Rattle.odr_log.specs.declared.log.Call.TheVariants as call
@@ -60,9 +61,13 @@ acc s x = access_at s.setting.accesses x
 abbrev count : Scene → ℕ
 count s = length s.setting.accesses
 
+pub listed_access : (setting : Setting) (walk : Walk) (paths : Paths) (base last : Encoder) (facts : List Fact) → IsWhole setting walk paths base last facts
+    → (x : ℕ) → x < length setting.accesses → IsListed setting.log walk setting.nodes setting.accesses (access_at setting.accesses x)
+listed_access setting walk paths base last facts whole x there =
+    subst (λ (accesses : List Access). All (IsListed setting.log walk setting.nodes accesses) accesses) (sym whole.accesses_are) whole.paths_are.each x no_access there
+
 listed : (s : Scene) (x : ℕ) → x < count s → IsListed s.setting.log s.walk s.setting.nodes s.setting.accesses (acc s x)
-listed s x there =
-    subst (λ (accesses : List Access). All (IsListed s.setting.log s.walk s.setting.nodes accesses) accesses) (sym s.whole.accesses_are) s.whole.paths_are.each x no_access there
+listed s x there = listed_access s.setting s.walk s.paths s.base s.last s.facts s.whole x there
 
 keeps : (s : Scene) → KeepsTerms s.setting.nodes s.last.pool
 keeps s = terms_then s.setting.nodes s.base.pool s.last.pool s.whole.stands.terms s.whole.adds.keeps.terms
@@ -257,18 +262,21 @@ conditional_shape instr.Ebreak shown p link e = absurd (false≢true e)
 conditional_shape (instr.LoadReserved rd rs1 aq rl) shown p link e = absurd (false≢true e)
 
 -- the guard of an access that looks back is its outcome's variable
-outcome_node : (s : Scene) (x lr : ℕ) → x < count s → (acc s x).link ≡ Some lr → slice_get s.setting.nodes (guard_id s x) ≡ Some (Var 1 (own_number s x))
-outcome_node s x lr there link =
-    let is = listed s x there in
-    by_instruction (instr_of_step s.walk (acc s x).pos) (is_conditional (instr_of_step s.walk (acc s x).pos)) refl is.unlinked is.guard
+pub guard_node : (log : Log) (walk : Walk) (nodes : List Shape) (accesses : List Access) (access : Access) (lr : ℕ) → IsListed log walk nodes accesses access
+    → access.link ≡ Some lr → slice_get nodes access.guard.number ≡ Some (Var 1 (step_number access.pos.thread access.pos.step))
+guard_node log walk nodes accesses access lr is link =
+    by_instruction (instr_of_step walk access.pos) (is_conditional (instr_of_step walk access.pos)) refl is.unlinked is.guard
   where
-    by_instruction : (instruction : Instr) (b : Bool) → is_conditional instruction ≡ b → (is_conditional instruction ≡ false → (acc s x).link ≡ None)
-        → slice_get s.setting.nodes (guard_id s x) ≡ Some (guard_shape instruction (noted (told s.setting.log s.walk) (acc s x).pos) (acc s x).pos (acc s x).link)
-        → slice_get s.setting.nodes (guard_id s x) ≡ Some (Var 1 (own_number s x))
+    by_instruction : (instruction : Instr) (b : Bool) → is_conditional instruction ≡ b → (is_conditional instruction ≡ false → access.link ≡ None)
+        → slice_get nodes access.guard.number ≡ Some (guard_shape instruction (noted (told log walk) access.pos) access.pos access.link)
+        → slice_get nodes access.guard.number ≡ Some (Var 1 (step_number access.pos.thread access.pos.step))
     by_instruction instruction false e unlinked node = absurd (none-some lr (sym (unlinked e) ∙ link))
     by_instruction instruction true e unlinked node =
-        node ∙ ap (λ (shape : Shape). Some shape) (conditional_shape instruction (noted (told s.setting.log s.walk) (acc s x).pos) (acc s x).pos (acc s x).link e)
-        ∙ ap (λ (o : Option ℕ). Some (outcome_shape (acc s x).pos o)) link
+        node ∙ ap (λ (shape : Shape). Some shape) (conditional_shape instruction (noted (told log walk) access.pos) access.pos access.link e)
+        ∙ ap (λ (o : Option ℕ). Some (outcome_shape access.pos o)) link
+
+outcome_node : (s : Scene) (x lr : ℕ) → x < count s → (acc s x).link ≡ Some lr → slice_get s.setting.nodes (guard_id s x) ≡ Some (Var 1 (own_number s x))
+outcome_node s x lr there = guard_node s.setting.log s.walk s.setting.nodes s.setting.accesses (acc s x) lr (listed s x there)
 
 outcome_decided : (s : Scene) (x w n : ℕ) → x < count s → Before s x → is_some (acc s x).link ≡ true → w ≡ 1 → n ≡ own_number s x → Decided s w n
 outcome_decided s x w n there before linked wide same first found = by_link (acc s x).link refl linked where

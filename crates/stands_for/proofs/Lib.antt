@@ -1,1 +1,4 @@
 pub mod Given
+pub mod Orders
+pub mod Variables
+pub mod Standing

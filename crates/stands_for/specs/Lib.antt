@@ -1,2 +1,4 @@
 pub mod Whole
 pub mod Decides
+pub mod Stands
+pub mod Law

@@ -3,4 +3,4 @@
 
 mod law;
 
-pub use law::{order_decides_all, order_gives_accesses};
+pub use law::{order_decides_all, order_gives_accesses, whole_formulas_stand};

@@ -1,0 +1,4 @@
+pub mod Placed
+pub mod Merged
+pub mod Decided
+pub mod Telling
