@@ -1,5 +1,5 @@
 -- What was found of accesses is what parts stand on.
-use Rattle.std.specs.Prelude.{◌≡◌, ◌↔◌, ℕ, ◌<◌, Bool, true, false, nat_eq, List, [], ◌∷◌, All, Contains, length, map, get_or, slice_get, Option, Some, None, is_some, option_map, unwrap_or, if◌then◌else◌}
+use Rattle.std.specs.Prelude.{◌≡◌, ◌↔◌, ℕ, ◌+◌, ◌<◌, Bool, true, false, nat_eq, List, [], ◌∷◌, All, Contains, length, map, get_or, slice_get, Option, Some, None, is_some, option_map, unwrap_or, if◌then◌else◌, AllPairs, ◌≢◌}
 use Rattle.std.proofs.Common.{sym, ◌∙◌, ap, subst, refl, arith}
 use Rattle.std.proofs.lemmas.Bool.{and_from, eq-eqb, false≢true, or_left, or_right}
 use Rattle.std.proofs.lemmas.List.{get_or_default, get_or-map, length-map}
@@ -14,7 +14,7 @@ use Rattle.happens_before.specs.declared.table.ThreadCalls.{ThreadCalls}
 use Rattle.happens_before.specs.Table.{IsOrderOf}
 use Rattle.clause_store.specs.Formula.{Formula}
 use Rattle.order_clauses.specs.Grid.{IsSquare, KnowsTable}
-use Rattle.order_vars.specs.Chosen.{AgreesWith, ChosenOrder, IsOrderVars}
+use Rattle.order_vars.specs.Chosen.{AgreesWith, ChosenOrder, IsOrderVars, PairsAreOpen}
 use Rattle.bv_terms.specs.Constants.{constant_at}
 use Rattle.bv_terms.specs.Shapes.{Shape, Var}
 use Rattle.bv_terms.specs.Values.{Assignment}
@@ -105,6 +105,8 @@ pub record Found : Type 0 where
   pub needs : AreCounted log shapes → AreDifferent shapes → (p : Pos) → Contains needed p ↔ NeedsOrderAt log shapes p
   pub asked : AreNeeded shapes (is_asked shapes needed also) (length shapes) vars.chosen
   pub orders : All (Counted log) vars.chosen → IsOrderVars log vars.chosen vars.ordered old new
+  pub opens : All (Counted log) vars.chosen → AllPairs (λ (p q : Pos). p ≢ q) vars.chosen → PairsAreOpen log vars.chosen vars.ordered
+  pub variables : new.vars ≡ old.vars + length vars.ordered.table.pairs
   pub square : IsSquare vars.ordered.table
   pub count : vars.ordered.table.count ≡ length vars.chosen
   pub table : KnowsTable new.vars vars.ordered.table
@@ -381,4 +383,6 @@ is_base f =
       asked = chosen_asked f;
       placed = is_placed f;
       places = of.1;
+      pairs_open = f.opens (chosen_counted f) (f.asked.once (different_in f));
+      vars = f.variables;
     }

@@ -1,9 +1,9 @@
-use Rattle.std.proofs.Common.{◌≡◌, ◌↔◌, ◌∙◌, All, Contains, List, length, map, sym, subst}
+use Rattle.std.proofs.Common.{◌≡◌, ◌↔◌, ◌∙◌, All, Contains, List, length, map, sym, subst, ◌≢◌, AllPairs}
 use Rattle.odr_log.specs.declared.log.Pos.{Pos}
 use Rattle.rv_model.specs.RecordedOrder.{Counted}
 use Rattle.bv_terms.specs.Values.{Assignment}
 use Rattle.order_clauses.specs.Grid.{IsSquare}
-use Rattle.order_vars.specs.Chosen.{ChosenOrder, IsOrderVars}
+use Rattle.order_vars.specs.Chosen.{ChosenOrder, IsOrderVars, PairsAreOpen}
 use Rattle.race_set.specs.declared.reading.Seen.{Seen}
 use Rattle.race_set.specs.declared.shape.AccessShape.{AccessShape}
 use Rattle.race_set.specs.Accesses.{AreCounted, AreDifferent}
@@ -64,6 +64,9 @@ returns-clause-base c =
           (subst (λ (ps : List Pos). AreNeeded shapes (is_asked shapes ps also) (length shapes) c.in_ok-chosen.chosen) c.as_slice-4.ensures
           (subst (λ (ss : List AccessShape). AreNeeded ss (is_asked ss c.as_slice-4.result.now also) (length ss) c.in_ok-chosen.chosen) c.as_slice-3.ensures c.in_ok-chosen.ensures));
       orders = subst (λ (ps : List Pos). All (Counted log) ps → IsOrderVars log ps vars.ordered old new) chosen (c.in_ok-vars.ensures.orders log order_of);
+      opens = subst (λ (ps : List Pos). All (Counted log) ps → AllPairs (λ (p q : Pos). p ≢ q) ps → PairsAreOpen log ps vars.ordered) chosen
+          (c.in_ok-vars.ensures.pairs log order_of);
+      variables = c.in_ok-vars.ensures.vars;
       square = subst (λ (v : ChosenOrder). IsSquare v.ordered.table) c.vars.view_is c.vars.invariant.square;
       count = subst (λ (v : ChosenOrder). v.ordered.table.count ≡ length v.chosen) c.vars.view_is c.vars.invariant.count;
       table = c.in_ok-vars.ensures.known;

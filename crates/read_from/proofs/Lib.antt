@@ -1,0 +1,5 @@
+pub mod Refuted
+pub mod Listing
+pub mod Naming
+pub mod Formed
+pub mod Building
